@@ -1,0 +1,6 @@
+pub mod Digits
+pub mod Pairs
+pub mod Cuts
+pub mod Replay
+pub mod More
+pub mod Reading

@@ -1,0 +1,20 @@
+//! What every other crate speaks of: texts, items, deltas and the book, and the sources and sinks of the outside.
+#![tactic(auto)]
+
+mod delta;
+mod entry;
+mod item;
+mod laws;
+mod number;
+mod status;
+mod text;
+
+pub use delta::{Delta, Deltas, Kind};
+pub use entry::Entry;
+pub use item::Item;
+pub use laws::{
+    growth_changes_nothing_earlier, numbers_read_back, readings, replay_gives_the_worlds,
+};
+pub use number::{print_u64, read_u64};
+pub use status::{Status, read_status, same_status, status_text};
+pub use text::{NoMemory, Text, TextFault};
