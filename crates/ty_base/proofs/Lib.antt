@@ -4,3 +4,5 @@ pub mod Cuts
 pub mod Replay
 pub mod More
 pub mod Reading
+pub mod Known
+pub mod Taken

@@ -3,18 +3,24 @@
 
 mod delta;
 mod entry;
+mod flow;
 mod item;
 mod laws;
+mod memory;
 mod number;
+mod outside;
 mod status;
 mod text;
 
 pub use delta::{Delta, Deltas, Kind};
 pub use entry::Entry;
+pub use flow::{LIMIT, PIECE, ReadFault, give_all, read_all};
 pub use item::Item;
 pub use laws::{
     growth_changes_nothing_earlier, numbers_read_back, readings, replay_gives_the_worlds,
 };
+pub use memory::{MemSink, MemSource};
 pub use number::{print_u64, read_u64};
+pub use outside::{Failed, Sink, Source};
 pub use status::{Status, read_status, same_status, status_text};
 pub use text::{NoMemory, Text, TextFault};
