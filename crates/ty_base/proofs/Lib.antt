@@ -6,3 +6,4 @@ pub mod More
 pub mod Reading
 pub mod Known
 pub mod Taken
+pub mod Passing

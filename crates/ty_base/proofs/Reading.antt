@@ -1,5 +1,5 @@
 -- What the definitions of Feed come to, in other words.
-use Rattle.std.proofs.Common.{◌≡◌, ◌≢◌, ℕ, zero, suc, ◌+◌, ◌-◌, ◌%◌, ◌<◌, ◌≤◌, ◌==◌, Bool, true, false, cond, not, ◌||◌, List, [], ◌∷◌, length, take, reverse, get_or, refl, sym, ap, subst, ◌∙◌, arith, true≢false, eq-eqb, ne_eqb, eq-or-lt_of_le, inl, inr, add-one}
+use Rattle.std.proofs.Common.{◌≡◌, ◌≢◌, ℕ, zero, suc, ◌+◌, ◌-◌, ◌%◌, ◌<◌, ◌≤◌, ◌==◌, Bool, true, false, cond, not, ◌&&◌, ◌||◌, List, [], ◌∷◌, length, take, reverse, get_or, refl, sym, ap, subst, ◌∙◌, arith, true≢false, eq-eqb, ne_eqb, eq-or-lt_of_le, inl, inr, add-one}
 use Rattle.std.specs.Prelude.{Option, None, Some}
 use Rattle.std.specs.List.{find, filter, range_with_len, suffix_len}
 use Rattle.std.specs.Str.{bytes_eq}
@@ -9,7 +9,7 @@ use Rattle.std.proofs.lemmas.Bool.Decides.{Decides-eqb}
 use Rattle.ty_base.specs.declared.item.Item.{Item}
 use Rattle.ty_base.specs.declared.item.Item.TheVariants.{Put, Del, State, Mark}
 use Rattle.ty_base.specs.Feed.{get, World, start, after, folded, is_update, is_closing, cuts_after, cuts, world_at, same_world, closing_before, closings, book, deltas, replay}
-use Rattle.ty_base.specs.Readings.{is_about, put_by, last_put, AllNext}
+use Rattle.ty_base.specs.Readings.{is_about, put_by, last_put, is_state, status_by, last_state, AllNext}
 use Rattle.ty_base.proofs.Pairs.{get-put_value, worlds_decide}
 use Rattle.ty_base.proofs.Cuts.{passed, passed_more, closing_before_is}
 
@@ -29,9 +29,25 @@ from_back (x ∷ back) q =
     ∙ ap (λ w. get w.pairs q) (fold_push after start (reverse back) x)
     ∙ last_put_more (folded (reverse back)) x q (find (is_about q) back) (from_back back q)
 
-pub fold_is : (items : List Item) (q : List ℕ) → get (folded items).pairs q ≡ last_put q items
+pub value_is : (items : List Item) (q : List ℕ) → get (folded items).pairs q ≡ last_put q items
 unfolding cuts_after cuts closings book deltas replay
-fold_is items q = ap (λ xs. get (folded xs).pairs q) (sym (reverse-reverse items)) ∙ from_back (reverse items) q
+value_is items q = ap (λ xs. get (folded xs).pairs q) (sym (reverse-reverse items)) ∙ from_back (reverse items) q
+
+last_state_more : (w : World) (x : Item) (o : Option Item) → w.status ≡ status_by o → (after w x).status ≡ status_by (cond (is_state x) (Some x) o)
+last_state_more w (Put k v) o h = h
+last_state_more w (Del k) o h = h
+last_state_more w (State s) o h = refl
+last_state_more w Mark o h = h
+
+state_from_back : (back : List Item) → (folded (reverse back)).status ≡ status_by (find is_state back)
+state_from_back [] = refl
+state_from_back (x ∷ back) =
+    ap (λ xs. (folded xs).status) (reverse-append (x ∷ []) back)
+    ∙ ap (λ w. w.status) (fold_push after start (reverse back) x)
+    ∙ last_state_more (folded (reverse back)) x (find is_state back) (state_from_back back)
+
+pub status_is : (items : List Item) → (folded items).status ≡ last_state items
+status_is items = ap (λ xs. (folded xs).status) (sym (reverse-reverse items)) ∙ state_from_back (reverse items)
 
 -- the run of updates after one more item
 run_more : (items : List Item) (j : ℕ) (x : Item) → j < length items → x ≡ get_or items j x → suffix_len is_update (take (j + 1) items) ≡ cond (is_update x) (1 + suffix_len is_update (take j items)) 0
@@ -125,3 +141,15 @@ next_cut ended items (suc n) j c e l h =
 pub cuts_are : (ended : Bool) (items : List Item) → AllNext ended items 0 (cuts ended items)
 unfolding cuts_after cuts closings book deltas replay
 cuts_are ended items = next_cut ended items (length items) 0 0 (omega arith) (omega arith) (λ q b a d. absurd (omega arith))
+
+or_false : (a b : Bool) → ((a || false) || b) ≡ (a || b)
+or_false true b = refl
+or_false false b = refl
+
+-- the same where the feed may have ended
+pub closing_either : (ended : Bool) (items : List Item) (j : ℕ) (x : Item) → j < length items → x ≡ get_or items j x
+    → is_closing ended items (j + 1) ≡ (not (is_update x) || (j + 1 - closing_before false items (j + 1) == 100) || (ended && (j + 1 == length items)))
+closing_either ended items j x h e =
+    let run : Bool = suffix_len is_update (take (j + 1) items) % 100 == 0 in
+    let end : Bool = ended && (j + 1 == length items) in
+    sym (or_false run end) ∙ ap (λ b. b || end) (closing_is items j x h e)

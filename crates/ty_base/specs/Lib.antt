@@ -4,5 +4,6 @@ pub mod Fronts
 pub mod Kinds
 pub mod Memory
 pub mod Numbers
+pub mod Passing
 pub mod Readings
 pub mod Statuses

@@ -10,6 +10,8 @@ mod memory;
 mod number;
 mod outside;
 mod status;
+#[cfg(test)]
+mod tests;
 mod text;
 
 pub use delta::{Delta, Deltas, Kind};
@@ -17,7 +19,8 @@ pub use entry::Entry;
 pub use flow::{LIMIT, PIECE, ReadFault, give_all, read_all};
 pub use item::Item;
 pub use laws::{
-    growth_changes_nothing_earlier, numbers_read_back, readings, replay_gives_the_worlds,
+    growth_changes_nothing_earlier, keys_and_values_are_the_items_own, numbers_read_back, readings,
+    replay_gives_the_worlds,
 };
 pub use memory::{MemSink, MemSource};
 pub use number::{print_u64, read_u64};

@@ -36,11 +36,7 @@ impl Model for MemSource {
 impl MemSource {
     /// A source of these pieces, of which those without bytes are dropped. `fails` lists the numbers,
     /// from 1, of the calls that fail.
-    pub fn new(
-        alloc: Global,
-        pieces: Vec<Vec<u8>>,
-        fails: Vec<u64>,
-    ) -> Result<MemSource, NoMemory>
+    pub fn new(alloc: Global, pieces: Vec<Vec<u8>>, fails: Vec<u64>) -> Result<MemSource, NoMemory>
         ensures left { IfOk result (λ s. s.left ≡ flat_map (λ p. p.items) pieces.items) }
         ensures fails { IfOk result (λ s. s.fails ≡ fails.items) }
         ensures begins { IfOk result (λ s. (s.calls ≡ 0) × (s.faults ≡ 0)) }

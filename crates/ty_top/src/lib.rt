@@ -1,0 +1,13 @@
+//! The top call: the command line's words, the modes, the exit statuses and the notes.
+#![tactic(auto)]
+
+mod ending;
+mod stream;
+mod top;
+mod words;
+
+pub use ending::Local;
+pub use top::local;
+
+#[cfg(test)]
+mod tests;
