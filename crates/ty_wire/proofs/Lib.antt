@@ -1,0 +1,4 @@
+pub mod Parts
+pub mod Sent
+pub mod Short
+pub mod Spelling

@@ -1,0 +1,76 @@
+-- The bytes of a message: its body, which is compact JSON (RFC 8259), behind the body's length as four bytes, highest first.
+use Rattle.std.specs.Prelude.{◌≡◌, ℕ, ◌^◌, List, [], ◌∷◌, ◌++◌, length, flat_map, codes, decimal, Bool, true, ◌&&◌, nat_lt, nat_le, Option, None, Some}
+use Rattle.std.specs.Str.{IsUtf8}
+use Rattle.std.specs.Int.{to_be_bytes, w32}
+use Rattle.json.specs.Print.{quoted}
+use Rattle.serde_json.specs.Data.{Data}
+use Rattle.serde_json.specs.Read.{read}
+use Rattle.ty_base.specs.Statuses.{status_text}
+use Rattle.ty_base.specs.declared.delta.Kind.{Kind}
+use Rattle.ty_base.specs.declared.delta.Kind.TheVariants.{New, Updated, Deleted}
+use Rattle.ty_base.specs.declared.delta.Delta.{Delta}
+use Rattle.ty_wire.specs.Limits.{within_limits}
+use Rattle.ty_wire.specs.declared.message.Msg.{Msg}
+use Rattle.ty_wire.specs.declared.message.Msg.TheVariants.{ClientHello, ServerHello, Kvs, Status as StatusMsg, Crumb, Ping, Pong}
+
+abbrev pub kind_text : Kind → List ℕ
+kind_text New = codes "new"
+kind_text Updated = codes "updated"
+kind_text Deleted = codes "deleted"
+
+abbrev pub value_text : Option (List ℕ) → List ℕ
+value_text None = []
+value_text (Some v) = codes ",\"value\":" ++ quoted v
+
+abbrev pub delta_text : Delta → List ℕ
+delta_text d = codes "{\"key\":" ++ (quoted d.key ++ (codes ",\"type\":\"" ++ (kind_text d.kind ++ (codes "\"" ++ (value_text d.value ++ codes "}")))))
+
+-- each behind a comma
+unfoldable pub more_deltas : List Delta → List ℕ
+more_deltas [] = []
+more_deltas (d ∷ ds) = 44 ∷ (delta_text d ++ more_deltas ds)
+
+abbrev pub deltas_text : List Delta → List ℕ
+deltas_text [] = []
+deltas_text (d ∷ ds) = delta_text d ++ more_deltas ds
+
+abbrev pub body : Msg → List ℕ
+body (ClientHello version host) = codes "{\"host\":" ++ (quoted host ++ (codes ",\"m\":\"client_hello\",\"version\":" ++ (decimal version ++ codes "}")))
+body (ServerHello version) = codes "{\"m\":\"server_hello\",\"version\":" ++ (decimal version ++ codes "}")
+body (Kvs ds) = codes "{\"kvs\":[" ++ (deltas_text ds ++ codes "],\"m\":\"kvs\"}")
+body (StatusMsg s) = codes "{\"m\":\"status\",\"status\":\"" ++ (status_text s ++ codes "\"}")
+body (Crumb n) = codes "{\"m\":\"crumb\",\"n\":" ++ (decimal n ++ codes "}")
+body (Ping ts) = codes "{\"m\":\"ping\",\"ts\":" ++ (decimal ts ++ codes "}")
+body (Pong ts) = codes "{\"m\":\"pong\",\"ts\":" ++ (decimal ts ++ codes "}")
+
+abbrev pub frame : Msg → List ℕ
+frame m = to_be_bytes w32 (length (body m)) ++ body m
+
+abbrev pub frames : List Msg → List ℕ
+frames ms = flat_map frame ms
+
+abbrev pub parts_fit : Msg → Bool
+parts_fit (ClientHello version host) = nat_lt version (2 ^ 64)
+parts_fit (ServerHello version) = nat_lt version (2 ^ 64)
+parts_fit (Kvs ds) = nat_lt 0 (length ds) && nat_le (length ds) 100 && within_limits ds
+parts_fit (StatusMsg s) = true
+parts_fit (Crumb n) = nat_lt n (2 ^ 64)
+parts_fit (Ping ts) = nat_lt ts (2 ^ 64)
+parts_fit (Pong ts) = nat_lt ts (2 ^ 64)
+
+abbrev pub message_fits : Msg → Bool
+message_fits m = parts_fit m && nat_le (length (body m)) 8388608
+
+-- a JSON text that `serde_json` reads
+abbrev pub IsJson : List ℕ → Type 0
+IsJson bytes = IsUtf8 bytes × ((d : Data) × (read bytes ≡ Some d))
+
+-- the one spelling of a message
+pub record Spells (bytes : List ℕ) (m : Msg) : Type 0 where
+  pub utf8 : IsUtf8 bytes
+  pub fits : message_fits m ≡ true
+  pub same : bytes ≡ body m
+
+-- the body is UTF-8 and the message fits
+abbrev pub IsWire : Msg → Type 0
+IsWire m = Spells (body m) m
