@@ -1,0 +1,4 @@
+pub mod Steps
+pub mod Compare
+pub mod Firsts
+pub mod Books
