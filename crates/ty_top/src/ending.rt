@@ -73,7 +73,8 @@ fn try_tell<E: Sink>(notes: &mut E, ending: Ending) -> Result<(), Failed>
     }
 }
 
-const USAGE: &[u8] = b"usage: typha stream|follow|sim|load|serve [--from N] [--brief] [--at ADDR] [--host NAME] [--tries N] [--number N] [--workers N]\n";
+const USAGE: &[u8] =
+    b"usage: typha stream|follow|sim|load|serve [--from N] [--brief] [--at ADDR] [--host NAME] [--tries N] [--number N] [--workers N]\n";
 
 // Gives a text that has a number in it.
 fn give_numbered<E: Sink>(

@@ -1,7 +1,6 @@
 // The talk over the book of a list of items, by the plain programs.
-ghost use Rattle.std.specs.Prelude.{◌≡◌, ◌++◌, ◌<◌, ◌^◌, length, true, None, IfOk, OnOk};
+ghost use Rattle.std.specs.Prelude.{◌≡◌, ◌++◌, [], length, IfOk, OnOk};
 ghost use Rattle.std.specs.List.{All, range_with_len};
-ghost use Rattle.ty_base.specs.Feed.{book as book_of};
 ghost use Rattle.ty_intake.specs.Items.{IsSmall};
 ghost use Rattle.ty_wire.specs.Limits.{IsWithinLimits};
 ghost use Rattle.ty_wire.specs.Wire.{frames};
@@ -53,5 +52,9 @@ fn write_entries(alloc: Global, book: &[Entry], out: &mut Vec<u8>) -> Result<(),
 pub(crate) fn change(from: Status, to: Status) -> Option<Status>
     ensures { result ≡ status_change from to }
 {
-    if same_status(from, to) { None } else { Some(to) }
+    if same_status(from, to) {
+        None
+    } else {
+        Some(to)
+    }
 }

@@ -1,5 +1,5 @@
 // The top call, over anything that gives and takes bytes.
-ghost use Rattle.std.specs.Prelude.{◌≡◌, ◌↔◌, ◌×◌, ◌⊎◌, ◌^◌, List, ℕ, None, Some, length};
+ghost use Rattle.std.specs.Prelude.{◌≡◌, ◌↔◌, ◌⊎◌, ◌^◌, List, ℕ, Option, Some, length};
 ghost use Rattle.std.specs.Io.KnownBytes.{Appends, Consumes};
 ghost use Rattle.ty_base.specs.Causes.{Rose};
 ghost use Rattle.ty_base.specs.Fronts.{AppendsFront};

@@ -1,0 +1,72 @@
+-- A book's groups, one entry at a time.
+use Rattle.std.proofs.Common.{◌≡◌, ℕ, zero, suc, ◌+◌, ◌-◌, ◌<◌, ◌≤◌, Bool, true, false, cond, List, [], ◌∷◌, ◌++◌, length, take, drop, map, refl, sym, ap, subst, ◌∙◌, arith, add-one, get_or, append_assoc, append-nil, drop-cons}
+use Rattle.std.specs.Prelude.{Option, None, Some, flat_map}
+use Rattle.std.specs.List.{range_with_len, slice_range, fold}
+use Rattle.std.proofs.lemmas.List.{take_more}
+use Rattle.std.proofs.lemmas.List.Sums.{fold-append}
+use Rattle.std.proofs.lemmas.Grind.{flat_map-append}
+use Rattle.ty_base.specs.declared.entry.Entry.{Entry}
+use Rattle.ty_base.specs.declared.item.Item.{Item}
+use Rattle.ty_base.specs.Feed.{World, replay, published, start, last_of, book, last, entry}
+use Rattle.ty_base.proofs.Cuts.{range_split}
+use Rattle.ty_wire.specs.Wire.{frames, frame}
+use Rattle.ty_wire.specs.Talk.{talk, opening, groups_after, group_between, group, deltas_between, status_change, world_after}
+use Rattle.ty_wire.specs.declared.message.Msg.{Msg}
+use Rattle.ty_base.specs.declared.status.Status.TheVariants.{Wait}
+use Rattle.ty_wire.specs.declared.message.Msg.TheVariants.{ServerHello}
+use Rattle.std.proofs.lemmas.List.FromFn.{length-map-range_with_len}
+use Rattle.ty_top.proofs.Limits.{le_true}
+use Rattle.ty_top.specs.Streamed.{streamed}
+
+last_of_range : (i d : ℕ) → last_of d (range_with_len (d + 1) i) ≡ d + i
+last_of_range zero d = omega arith
+last_of_range (suc i) d = last_of_range i (d + 1) ∙ omega arith
+
+groups_more : (es : List Entry) (from : ℕ) (ns : List ℕ) (m : ℕ) → groups_after es from (ns ++ m ∷ []) ≡ groups_after es from ns ++ group_between es (last_of from ns) m
+unfolding groups_after
+groups_more es from [] m = append-nil (group_between es from m)
+groups_more es from (n ∷ ns) m = ap (λ ms. group_between es from n ++ ms) (groups_more es n ns m) ∙ sym (append_assoc (group_between es from n) (groups_after es n ns) (group_between es (last_of n ns) m))
+
+one_between : (es : List Entry) (i : ℕ) (e : Entry) → i < length es → e ≡ get_or es i e → deltas_between es i (i + 1) ≡ e.deltas
+one_between es i e h is =
+    let one : i + 1 - i ≡ 1 = omega arith in
+    ap (λ k. flat_map (λ x. x.deltas) (take k (drop i es))) one
+    ∙ ap (λ xs. flat_map (λ x. x.deltas) (take 1 xs)) (drop-cons es i e h)
+    ∙ ap (λ x. x.deltas ++ []) (sym is)
+    ∙ append-nil e.deltas
+
+pub world_more : (es : List Entry) (i : ℕ) (e : Entry) → i < length es → e ≡ get_or es i e → world_after es (i + 1) ≡ published (world_after es i) e
+unfolding replay
+world_more es i e h is = ap replay (take_more es i e h) ∙ fold-append published start (take i es) (get_or es i e ∷ []) ∙ ap (published (world_after es i)) (sym is)
+
+-- the groups as far as one entry more
+pub groups_step : (es : List Entry) (i : ℕ) (e : Entry) (before now more : List ℕ) → i < length es → e ≡ get_or es i e
+    → now ≡ before ++ frames (groups_after es 0 (range_with_len 1 i))
+    → more ≡ now ++ frames (group e.deltas (status_change (world_after es i).status e.status) (i + 1))
+    → more ≡ before ++ frames (groups_after es 0 (range_with_len 1 (i + 1)))
+groups_step es i e before now more h is n m =
+    let done : List Msg = groups_after es 0 (range_with_len 1 i) in
+    let next : List Msg = group e.deltas (status_change (world_after es i).status e.status) (i + 1) in
+    let here : group_between es (last_of 0 (range_with_len 1 i)) (i + 1) ≡ next =
+    ap (λ k. group_between es k (i + 1)) (last_of_range i 0 ∙ omega arith)
+    ∙ ap (λ ds. group ds (status_change (world_after es i).status (world_after es (i + 1)).status) (i + 1)) (one_between es i e h is)
+    ∙ ap (λ (w : World). group e.deltas (status_change (world_after es i).status w.status) (i + 1)) (world_more es i e h is) in
+    let all : groups_after es 0 (range_with_len 1 (i + 1)) ≡ done ++ next =
+    ap (groups_after es 0) (range_split i 1 1 (i + 1) (omega arith)) ∙ groups_more es 0 (range_with_len 1 i) (i + 1) ∙ ap (λ ms. done ++ ms) here in
+    m ∙ ap (λ xs. xs ++ frames next) n ∙ append_assoc before (frames done) (frames next) ∙ ap (λ xs. before ++ xs) (sym (ap frames all ∙ flat_map-append frame done next))
+
+pub streamed_whole : (items : List Item) (bytes : List ℕ) → bytes ≡ frames (opening [] 0) ++ frames (groups_after (book true items) 0 (range_with_len 1 (length (book true items)))) → bytes ≡ streamed items 0
+unfolding streamed replay book
+streamed_whole items bytes h =
+    let es : List Entry = book true items in
+    let n : ℕ = last true items in
+    let numbers : length es ≡ n = length-map-range_with_len (entry true items) 1 n in
+    let less : n - 0 ≡ n = omega arith in
+    h
+    ∙ ap (λ k. frames (opening [] 0) ++ frames (groups_after es 0 (range_with_len 1 k))) (numbers ∙ sym less)
+    ∙ sym (flat_map-append frame (opening es 0) (groups_after es 0 (range_with_len 1 (n - 0))))
+    ∙ ap (λ b. cond b (frames (talk es 0 (range_with_len 1 (n - 0)))) (frame (ServerHello 1))) (sym (le_true 0 n (omega arith)))
+
+pub opening_whole : (a b c : List ℕ) → a ≡ [] → b ≡ a ++ frame (ServerHello 1) → c ≡ b ++ frames (group [] (Some Wait) 0) → c ≡ frames (opening [] 0)
+unfolding replay
+opening_whole a b c e f g = g ∙ ap (λ x. x ++ frames (group [] (Some Wait) 0)) (f ∙ ap (λ x. x ++ frame (ServerHello 1)) e)

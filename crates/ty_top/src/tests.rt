@@ -1,0 +1,229 @@
+// The worked feeds through the top call, over memory, and devices that fail.
+use crate::{Local, local};
+use std::alloc::Global;
+use std::test::Fail;
+use ty_base::{MemSink, MemSource, NoMemory, Text};
+
+const HELLO: &str = "{\"m\":\"server_hello\",\"version\":1}";
+
+const WAIT: &str = "{\"m\":\"status\",\"status\":\"wait-for-ready\"}";
+
+const IN_SYNC: &str = "{\"m\":\"status\",\"status\":\"in-sync\"}";
+
+const CRUMB_0: &str = "{\"m\":\"crumb\",\"n\":0}";
+
+const CRUMB_1: &str = "{\"m\":\"crumb\",\"n\":1}";
+
+const READY: &str =
+    "{\"kvs\":[{\"key\":\"/calico/v1/Ready\",\"type\":\"new\",\"value\":\"true\"}],\"m\":\"kvs\"}";
+
+const FEED: &str = "{\"key\":\"/calico/v1/Ready\",\"value\":true}\n{\"status\":\"in-sync\"}\n";
+
+// What a run answered, gave and noted.
+#[derive(Drop)]
+struct Ran {
+    status: u8,
+    given: Vec<u8>,
+    notes: Vec<u8>,
+}
+
+// A source of pieces, of which call `read_fails` fails, and a sink with room, of which call
+// `write_fails` fails. Calls count from 1.
+#[derive(Clone, Copy)]
+struct Devices {
+    piece: usize,
+    read_fails: u64,
+    room: usize,
+    write_fails: u64,
+}
+
+const GOOD: Devices = Devices {
+    piece: 1_000_000,
+    read_fails: 0,
+    room: 1_000_000,
+    write_fails: 0,
+};
+
+fn framed(alloc: Global, bodies: &[&str]) -> Result<Vec<u8>, NoMemory> {
+    let mut out = Vec::new(alloc);
+    for body in bodies {
+        out.push(0)?;
+        out.push(0)?;
+        out.push((body.len() / 256 % 256) as u8)?;
+        out.push((body.len() % 256) as u8)?;
+        out.extend_from_slice(body.as_bytes())?;
+    }
+    Ok(out)
+}
+
+fn words_of(alloc: Global, words: &[&str]) -> Result<Vec<Text>, NoMemory> {
+    let mut texts = Vec::new(alloc);
+    for word in words {
+        texts.push(Text::of(alloc, word)?)?;
+    }
+    Ok(texts)
+}
+
+fn run(alloc: Global, words: &[&str], feed: &[u8], devices: Devices) -> Result<Ran, NoMemory> {
+    let words = words_of(alloc, words)?;
+    let mut pieces = Vec::new(alloc);
+    for piece in feed.chunks(devices.piece.max(1)) {
+        pieces.push(piece.to_vec(alloc)?)?;
+    }
+    let mut source = MemSource::new(alloc, pieces, vec![in alloc; devices.read_fails]?)?;
+    let mut sink = MemSink::new(alloc, devices.room, vec![in alloc; devices.write_fails]?)?;
+    let mut notes = MemSink::new(alloc, 1000, Vec::new(alloc))?;
+    let Local::Done(status) = local(alloc, &words, &mut source, &mut sink, &mut notes);
+    Ok(Ran {
+        status,
+        given: sink.given().to_vec(alloc)?,
+        notes: notes.given().to_vec(alloc)?,
+    })
+}
+
+#[test]
+fn worked_feeds_have_their_frames(rt: HostRuntime) -> Result<(), Fail> {
+    let a = "{\"key\":\"/calico/v1/config/a\",\"value\":\"1\"}\n";
+    let two = "{\"key\":\"/calico/v1/config/a\",\"value\":\"2\"}\n";
+    let none = "{\"key\":\"/calico/v1/config/a\",\"value\":null}\n";
+    let b = "{\"key\":\"/calico/v1/config/b\",\"value\":\"1\"}\n";
+    let ready = "{\"key\":\"/calico/v1/Ready\",\"value\":true}\n";
+    let replaced =
+        "{\"kvs\":[{\"key\":\"/calico/v1/config/a\",\"type\":\"new\",\"value\":\"\\\"2\\\"\"},{\"key\":\"/calico/v1/config/b\",\"type\":\"new\",\"value\":\"\\\"1\\\"\"}],\"m\":\"kvs\"}";
+    let only_b =
+        "{\"kvs\":[{\"key\":\"/calico/v1/config/b\",\"type\":\"new\",\"value\":\"\\\"1\\\"\"}],\"m\":\"kvs\"}";
+    let feeds = [
+        ("nothing", ["", "", "", "", ""], ["", "", ""]),
+        ("ready", [FEED, "", "", "", ""], [READY, IN_SYNC, CRUMB_1]),
+        (
+            "held",
+            [ready, "\n", ready, " \r\t\n", ""],
+            [READY, CRUMB_1, ""],
+        ),
+        ("replaced", [a, b, two, "", ""], [replaced, CRUMB_1, ""]),
+        (
+            "put and deleted",
+            [a, none, "\n", b, "\n"],
+            [only_b, CRUMB_1, ""],
+        ),
+    ];
+    for (name, parts, bodies) in feeds {
+        let mut feed = Vec::new(rt.alloc());
+        for part in parts {
+            feed.extend_from_slice(part.as_bytes())?;
+        }
+        let mut wanted = framed(rt.alloc(), &[HELLO, WAIT, CRUMB_0])?;
+        for body in bodies {
+            if !body.is_empty() {
+                wanted.extend_from_slice(&framed(rt.alloc(), &[body])?)?;
+            }
+        }
+        let ran = run(rt.alloc(), &["stream"], &feed, GOOD)?;
+        assert_eq!(rt; ran.status, 0, "{name}");
+        assert!(rt; ran.given.as_slice() == wanted.as_slice(), "{name}");
+        assert!(rt; ran.notes.is_empty());
+    }
+    Ok(())
+}
+
+#[test]
+fn the_101st_update_makes_another_breadcrumb(rt: HostRuntime) -> Result<(), Fail> {
+    let mut feed = Vec::new(rt.alloc());
+    let mut first = String::from_str(rt.alloc(), "{\"kvs\":[")?;
+    let mut second = String::from_str(rt.alloc(), "{\"kvs\":[")?;
+    for k in 1..=101u32 {
+        let line = format!(in rt.alloc();
+            "{{\"key\":\"/calico/v1/config/k{k}\",\"value\":\"{k}\"}}\n"
+        )?;
+        feed.extend_from_slice(line.as_bytes())?;
+        let delta = format!(in rt.alloc();
+            "{{\"key\":\"/calico/v1/config/k{k}\",\"type\":\"new\",\"value\":\"\\\"{k}\\\"\"}}"
+        )?;
+        let body = if k <= 100 { &mut first } else { &mut second };
+        if k != 1 && k != 101 {
+            body.push_str(",")?;
+        }
+        body.push_str(delta.as_str())?;
+    }
+    first.push_str("],\"m\":\"kvs\"}")?;
+    second.push_str("],\"m\":\"kvs\"}")?;
+    let bodies = [
+        HELLO,
+        WAIT,
+        CRUMB_0,
+        first.as_str(),
+        CRUMB_1,
+        second.as_str(),
+        "{\"m\":\"crumb\",\"n\":2}",
+    ];
+    let ran = run(rt.alloc(), &["stream"], &feed, GOOD)?;
+    assert_eq!(rt; ran.status, 0);
+    assert!(rt; ran.given.as_slice() == framed(rt.alloc(), &bodies)?.as_slice());
+    Ok(())
+}
+
+#[test]
+fn words_and_bad_lines_have_their_notes(rt: HostRuntime) -> Result<(), Fail> {
+    let usage: &[u8] =
+        b"usage: typha stream|follow|sim|load|serve [--from N] [--brief] [--at ADDR] [--host NAME] [--tries N] [--number N] [--workers N]\n";
+    let none: [&str; 0] = [];
+    for words in [
+        none.as_slice(),
+        &["bake"],
+        &["stream", "stream"],
+        &["Stream"],
+        &[""],
+    ] {
+        let ran = run(rt.alloc(), words, FEED.as_bytes(), GOOD)?;
+        assert_eq!(rt; ran.status, 1);
+        assert!(rt; ran.given.is_empty());
+        assert!(rt; ran.notes.as_slice() == usage);
+    }
+    let mut feed = FEED.as_bytes().to_vec(rt.alloc())?;
+    feed.extend_from_slice(b"oops")?;
+    let ran = run(rt.alloc(), &["stream"], &feed, GOOD)?;
+    assert_eq!(rt; ran.status, 2);
+    assert!(rt; ran.given.is_empty());
+    assert!(rt; ran.notes.as_slice() == b"typha: line 3: not a feed line\n".as_slice());
+    Ok(())
+}
+
+#[test]
+fn devices_that_fail(rt: HostRuntime) -> Result<(), Fail> {
+    let whole = framed(rt.alloc(), &[HELLO, WAIT, CRUMB_0, READY, IN_SYNC, CRUMB_1])?;
+    for call in 1..=4u64 {
+        let devices = Devices {
+            piece: 21,
+            read_fails: call,
+            ..GOOD
+        };
+        let ran = run(rt.alloc(), &["stream"], FEED.as_bytes(), devices)?;
+        assert_eq!(rt; ran.status, 3);
+        assert!(rt; ran.given.is_empty());
+        assert!(rt; ran.notes.as_slice() == b"typha: read fault\n".as_slice());
+    }
+    for room in 0..=241usize {
+        let ran = run(
+            rt.alloc(),
+            &["stream"],
+            FEED.as_bytes(),
+            Devices { room, ..GOOD },
+        )?;
+        assert_eq!(rt; ran.status, if room == 241 { 0 } else { 4 });
+        assert!(rt; whole.starts_with(&ran.given));
+        assert_eq!(rt; ran.given.len(), room);
+    }
+    let ran = run(
+        rt.alloc(),
+        &["stream"],
+        FEED.as_bytes(),
+        Devices {
+            write_fails: 1,
+            ..GOOD
+        },
+    )?;
+    assert_eq!(rt; ran.status, 4);
+    assert!(rt; ran.given.is_empty());
+    assert!(rt; ran.notes.as_slice() == b"typha: write fault\n".as_slice());
+    Ok(())
+}
