@@ -1,0 +1,7 @@
+pub mod Groups
+pub mod Halves
+pub mod Networks
+pub mod Octets
+pub mod Pieces
+pub mod Places
+pub mod Readings

@@ -1,0 +1,4 @@
+pub mod Addresses
+pub mod Cidrs
+pub mod Ports
+pub mod Grammar
