@@ -10,8 +10,8 @@ use Rattle.std.specs.Str.Parse.{AllDigits, digits_value}
 use Rattle.std.specs.Net.Addr.{segments_of}
 use Rattle.std.specs.Net.Grammar.{IsDotted, IsGroup, IsGroupsAfter, IsGroups}
 use Rattle.ty_net.specs.Addresses.{◌>>=◌, pieces, octets, group, last_groups, groups}
-use Rattle.ty_net.proofs.Pieces.{Lacks, lacks_digits, pieces_one, pieces_more, some_piece, joined, tails, bind_some}
-use Rattle.ty_net.proofs.Octets.{octets_sound, octets_complete, dotted_lacks_colon, dotted_has_dot}
+use Rattle.ty_net.proofs.Pieces.{Lacks, lacks_both, lacks_digits, pieces_one, pieces_more, some_piece, joined, tails, bind_some}
+use Rattle.ty_net.proofs.Octets.{octets_sound, octets_complete, dotted_lacks, dotted_lacks_colon, dotted_has_dot}
 
 hex_from : (text : List ℕ) → AllDigits 16 text → list_all (λ b. is_digit b 16) text ≡ true
 hex_from [] h = refl
@@ -117,3 +117,14 @@ groups_sound dotted (p ∷ q ∷ ps) ss e =
     let (s, ts, gs_are, spelled) = groups_sound dotted (q ∷ ps) gs more in
     let later : IsGroupsAfter dotted (58 ∷ []) (58 ∷ joined 58 (q ∷ ps)) gs = subst (λ l. IsGroupsAfter dotted (58 ∷ []) (58 ∷ joined 58 (q ∷ ps)) l) (sym gs_are) (with_lead dotted s ts (joined 58 (q ∷ ps)) spelled) in
     (g, gs, sym same, inl (p, 58 ∷ joined 58 (q ∷ ps), refl, group_sound p g one, later))
+
+-- a byte that is no hexadecimal digit, no colon and no dot stands in no groups
+pub groups_lack : (c : ℕ) → 16 ≤ digit_value c → 46 ≢ c → 58 ≢ c → (dotted : Bool) (segments before text : List ℕ) → Lacks c before → IsGroupsAfter dotted before text segments → Lacks c text
+groups_lack c hex dot colon dotted [] before text b h = rw h tt
+groups_lack c hex dot colon dotted (s ∷ segments) before text b (inl h) =
+    let (g, rest, split, is_group, more) = h in
+    let later = groups_lack c hex dot colon dotted segments (58 ∷ []) rest (colon, tt) more in
+    rw split (lacks_both c (before ++ g) rest (lacks_both c before g b (lacks_digits 16 c g hex is_group.0.0.1)) later)
+groups_lack c hex dot colon dotted (s ∷ segments) before text b (inr h) =
+    let (last, o, allowed, split, is_dotted, value) = h in
+    rw split (lacks_both c before last b (dotted_lacks c last o (omega arith) dot is_dotted))

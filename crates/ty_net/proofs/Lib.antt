@@ -1,3 +1,4 @@
+pub mod Grammars
 pub mod Groups
 pub mod Halves
 pub mod Networks

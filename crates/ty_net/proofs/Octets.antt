@@ -4,6 +4,7 @@ use Rattle.std.proofs.lemmas.Bool.{leb-true}
 use Rattle.std.proofs.lemmas.Option.{none-some, same_Some}
 use Rattle.std.proofs.lemmas.Fmt.{decimal_is_IsNumeral}
 use Rattle.std.proofs.NetLemmas.Options.{cond_some}
+use Rattle.std.specs.Char.{digit_value}
 use Rattle.std.specs.Net.Text.{dotted_text}
 use Rattle.std.specs.Net.Grammar.{IsDotted}
 use Rattle.ty_base.specs.Numbers.{read_number}
@@ -64,11 +65,11 @@ octets_sound text o e =
     let (pieces_are, small) = each_octet (pieces 46 text) ns read in
     rw (← same) (four text ns (eqb-true (length ns) 4 count) small (sym (joined-pieces 46 text) ∙ ap (joined 46) pieces_are))
 
-pub lacks_dot : (n : ℕ) → n < 256 → Lacks 46 (decimal n)
-lacks_dot n h = lacks_digits 10 46 (decimal n) (lit≤ tt) (decimal_is_IsNumeral n (omega arith)).0.1
+pub decimal_lacks : (c n : ℕ) → 10 ≤ digit_value c → n < 2 ^ 64 → Lacks c (decimal n)
+decimal_lacks c n low h = lacks_digits 10 c (decimal n) low (decimal_is_IsNumeral n h).0.1
 
-pub lacks_colon : (n : ℕ) → n < 256 → Lacks 58 (decimal n)
-lacks_colon n h = lacks_digits 10 58 (decimal n) (lit≤ tt) (decimal_is_IsNumeral n (omega arith)).0.1
+lacks_dot : (n : ℕ) → n < 256 → Lacks 46 (decimal n)
+lacks_dot n h = decimal_lacks 46 n (lit≤ tt) (omega arith)
 
 parted : (x y z w : List ℕ) → x ++ (46 ∷ []) ++ y ++ (46 ∷ []) ++ z ++ (46 ∷ []) ++ w ≡ x ++ (46 ∷ (y ++ (46 ∷ (z ++ (46 ∷ w)))))
 parted x y z w = simp append_assoc
@@ -88,14 +89,18 @@ octets_complete text o h =
     let shown : pieces 46 text ≡ decimal h.a ∷ decimal h.b ∷ decimal h.c ∷ decimal h.d ∷ [] = ap (pieces 46) (h.spelled ∙ parted (decimal h.a) (decimal h.b) (decimal h.c) (decimal h.d)) ∙ ps in
     ap (λ x. each octet x >>= counted 4) shown ∙ ap (λ x. x >>= counted 4) (each_four h.a h.b h.c h.d fa fb fc fd) ∙ ap Some (sym h.value)
 
--- it has dots and no colons
-pub dotted_lacks_colon : (text o : List ℕ) → IsDotted text o → Lacks 58 text
-dotted_lacks_colon text o h =
+-- it has dots, and else no byte that is no digit
+pub dotted_lacks : (c : ℕ) (text o : List ℕ) → 10 ≤ digit_value c → 46 ≢ c → IsDotted text o → Lacks c text
+dotted_lacks c text o low other h =
     let (fa, fb, fc, fd) = h.fit in
-    let dot : Lacks 58 (46 ∷ []) = (λ e. (omega arith), tt) in
-    let one = lacks_both 58 _ _ (lacks_both 58 _ _ (lacks_colon h.a fa) dot) (lacks_colon h.b fb) in
-    let two = lacks_both 58 _ _ (lacks_both 58 _ _ one dot) (lacks_colon h.c fc) in
-    rw h.spelled (lacks_both 58 _ _ (lacks_both 58 _ _ two dot) (lacks_colon h.d fd))
+    let number : (n : ℕ) → n < 256 → Lacks c (decimal n) = λ n k. decimal_lacks c n low (omega arith) in
+    let dot : Lacks c (46 ∷ []) = (other, tt) in
+    let one = lacks_both c _ _ (lacks_both c _ _ (number h.a fa) dot) (number h.b fb) in
+    let two = lacks_both c _ _ (lacks_both c _ _ one dot) (number h.c fc) in
+    rw h.spelled (lacks_both c _ _ (lacks_both c _ _ two dot) (number h.d fd))
+
+pub dotted_lacks_colon : (text o : List ℕ) → IsDotted text o → Lacks 58 text
+dotted_lacks_colon text o h = dotted_lacks 58 text o (lit≤ tt) (λ e. omega arith) h
 
 pub dotted_has_dot : (text o : List ℕ) → IsDotted text o → Lacks 46 text → ⊥
 dotted_has_dot text o h k =

@@ -7,9 +7,14 @@ mod cut;
 mod fault;
 mod laws;
 mod ports;
+#[cfg(test)]
+mod tests;
 
 pub use address::{Ip, read_ip};
 pub use cidr::{Cidr, read_cidr};
 pub use fault::NetFault;
-pub use laws::addresses_are_those_of_the_grammar;
+pub use laws::{
+    addresses_are_those_of_the_grammar, networks_are_those_of_the_grammar,
+    ports_are_those_of_the_grammar,
+};
 pub use ports::{PortRange, read_ports};
