@@ -1,5 +1,5 @@
 -- What reads as a network or as ports is what the grammars put together.
-use Rattle.std.proofs.Common.{◌≡◌, ◌≢◌, ℕ, ◌+◌, ◌^◌, ◌<◌, ◌≤◌, ◌==◌, ◌⊎◌, inl, inr, nat_lt, Bool, true, false, cond, List, [], ◌∷◌, ◌++◌, length, codes, decimal, refl, sym, ap, ◌∙◌, arith, lit≤, lt-ltb, le-ltb, le-leb, append_assoc, Option, Some, None, Result, Ok, Err}
+use Rattle.std.proofs.Common.{◌≡◌, ℕ, ◌^◌, ◌<◌, ◌≤◌, inl, inr, nat_lt, true, false, cond, List, [], ◌∷◌, ◌++◌, length, decimal, refl, sym, ap, ◌∙◌, arith, lit≤, lt-ltb, le-ltb, le-leb, append_assoc, Option, Some, None, Result, Ok, Err}
 use Rattle.std.proofs.lemmas.Bool.{ltb-true, ltb-false, leb-true}
 use Rattle.std.proofs.lemmas.Fmt.{decimal_nonempty}
 use Rattle.std.proofs.lemmas.Option.{none-some, same_Some}
@@ -14,7 +14,7 @@ use Rattle.ty_net.specs.declared.address.Ip.TheVariants.{V4, V6}
 use Rattle.ty_net.specs.declared.cidr.Cidr.{Cidr}
 use Rattle.ty_net.specs.declared.ports.PortRange.{PortRange}
 use Rattle.ty_net.specs.declared.fault.NetFault.{NetFault}
-use Rattle.ty_net.specs.declared.fault.NetFault.TheVariants.{BadIp, BadLength, BadPort, Reversed}
+use Rattle.ty_net.specs.declared.fault.NetFault.TheVariants.{BadIp, Reversed}
 use Rattle.ty_net.specs.Addresses.{◌>>=◌, up_to, ip_of}
 use Rattle.ty_net.specs.Cidrs.{bits_of, prefix_of, with_prefix, with_address, cidr_reading, cidr_of}
 use Rattle.ty_net.specs.Ports.{port_of, range_of, ports_reading, ports_of}

@@ -1,5 +1,5 @@
 -- Groups parted by colons: what `groups` reads is what the grammar puts together.
-use Rattle.std.proofs.Common.{◌≡◌, ◌≢◌, ℕ, ◌+◌, ◌*◌, ◌<◌, ◌≤◌, ◌&&◌, ◌⊎◌, inl, inr, Bool, true, false, true≢false, List, [], ◌∷◌, ◌++◌, length, codes, refl, sym, ap, subst, ◌∙◌, arith, lit≤, append_assoc, append-nil, lt-ltb, le-leb, Option, Some, None, IsTrue}
+use Rattle.std.proofs.Common.{◌≡◌, ◌≢◌, ℕ, ◌+◌, ◌*◌, ◌≤◌, inl, inr, Bool, true, false, true≢false, List, [], ◌∷◌, ◌++◌, length, refl, sym, ap, subst, ◌∙◌, arith, lit≤, append-nil, lt-ltb, le-leb, Option, Some, None, IsTrue}
 use Rattle.std.proofs.lemmas.Bool.{leb-true, ltb-true, and_from, and_parts}
 use Rattle.std.proofs.lemmas.Option.{none-some, same_Some}
 use Rattle.std.proofs.NetLemmas.Options.{cond_some, map_some}
@@ -8,9 +8,9 @@ use Rattle.std.specs.List.{list_all}
 use Rattle.std.specs.Option.{option_map, option_or}
 use Rattle.std.specs.Str.Parse.{AllDigits, digits_value}
 use Rattle.std.specs.Net.Addr.{segments_of}
-use Rattle.std.specs.Net.Grammar.{IsDotted, IsGroup, IsGroupsAfter, IsGroups}
+use Rattle.std.specs.Net.Grammar.{IsDotted, IsGroup, IsGroupsAfter}
 use Rattle.ty_net.specs.Addresses.{◌>>=◌, pieces, octets, group, last_groups, groups}
-use Rattle.ty_net.proofs.Pieces.{Lacks, lacks_both, lacks_digits, pieces_one, pieces_more, some_piece, joined, tails, bind_some}
+use Rattle.ty_net.proofs.Pieces.{Lacks, lacks_both, lacks_digits, pieces_one, pieces_more, some_piece, joined, bind_some}
 use Rattle.ty_net.proofs.Octets.{octets_sound, octets_complete, dotted_lacks, dotted_lacks_colon, dotted_has_dot}
 
 hex_from : (text : List ℕ) → AllDigits 16 text → list_all (λ b. is_digit b 16) text ≡ true

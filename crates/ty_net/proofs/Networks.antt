@@ -1,11 +1,11 @@
 -- The outcomes of `cidr_reading` and of `ports_reading`.
-use Rattle.std.proofs.Common.{◌≡◌, ℕ, ◌==◌, Bool, true, false, cond, List, refl, sym, ap, ◌∙◌, Option, Some, None, Result, Ok, Err}
+use Rattle.std.proofs.Common.{◌≡◌, ℕ, ◌==◌, Bool, true, false, cond, List, sym, ap, ◌∙◌, Option, Some, None, Result, Ok, Err}
 use Rattle.std.specs.List.{list_any, before_first, after_first}
 use Rattle.std.specs.Option.{ok_or}
 use Rattle.ty_net.specs.declared.address.Ip.{Ip}
 use Rattle.ty_net.specs.declared.cidr.Cidr.{Cidr}
 use Rattle.ty_net.specs.declared.fault.NetFault.{NetFault}
-use Rattle.ty_net.specs.declared.fault.NetFault.TheVariants.{BadIp, BadLength}
+use Rattle.ty_net.specs.declared.fault.NetFault.TheVariants.{BadIp}
 use Rattle.ty_net.specs.Addresses.{ip_of}
 use Rattle.ty_net.specs.Cidrs.{prefix_of, with_prefix, with_address, cidr_reading}
 use Rattle.ty_net.specs.Ports.{port_of, range_of, ports_reading}

@@ -1,11 +1,10 @@
 -- Dotted decimal: what `octets` reads is what the grammar puts together.
-use Rattle.std.proofs.Common.{◌≡◌, ◌≢◌, ℕ, ◌^◌, ◌<◌, ◌≤◌, ◌==◌, Bool, true, false, cond, List, [], ◌∷◌, ◌++◌, length, map, decimal, refl, sym, ap, ◌∙◌, arith, lit≤, eq-eqb, eqb-true, append_assoc, append-nil, le-leb, Option, Some, None}
+use Rattle.std.proofs.Common.{◌≡◌, ◌≢◌, ℕ, ◌^◌, ◌<◌, ◌≤◌, List, [], ◌∷◌, ◌++◌, length, map, decimal, refl, sym, ap, ◌∙◌, arith, lit≤, eqb-true, append_assoc, append-nil, le-leb, Some}
 use Rattle.std.proofs.lemmas.Bool.{leb-true}
-use Rattle.std.proofs.lemmas.Option.{none-some, same_Some}
+use Rattle.std.proofs.lemmas.Option.{same_Some}
 use Rattle.std.proofs.lemmas.Fmt.{decimal_is_IsNumeral}
 use Rattle.std.proofs.NetLemmas.Options.{cond_some}
 use Rattle.std.specs.Char.{digit_value}
-use Rattle.std.specs.Net.Text.{dotted_text}
 use Rattle.std.specs.Net.Grammar.{IsDotted}
 use Rattle.ty_base.specs.Numbers.{read_number}
 use Rattle.ty_base.proofs.Digits.{read_decimal, decimal_of_read}

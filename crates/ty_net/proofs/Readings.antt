@@ -1,21 +1,21 @@
 -- What reads as an address is what the grammar puts together.
-use Rattle.std.proofs.Common.{◌≡◌, ℕ, ◌+◌, ◌-◌, ◌<◌, ◌≤◌, ◌==◌, ◌⊎◌, inl, inr, Bool, true, false, List, [], ◌∷◌, ◌++◌, length, replicate, refl, sym, ap, subst, ◌∙◌, arith, lt-ltb, eq-eqb, eqb-true, append_assoc, Option, Some, None}
+use Rattle.std.proofs.Common.{◌≡◌, ℕ, ◌+◌, ◌-◌, ◌<◌, inl, inr, Bool, true, false, List, [], ◌∷◌, ◌++◌, length, replicate, refl, sym, ap, subst, ◌∙◌, arith, lt-ltb, eq-eqb, eqb-true, append_assoc, Option, Some, None}
 use Rattle.std.proofs.lemmas.Bool.{ltb-true}
 use Rattle.std.proofs.lemmas.Option.{none-some, same_Some}
-use Rattle.std.proofs.NetLemmas.Options.{cond_some, map_some, same_parts}
+use Rattle.std.proofs.NetLemmas.Options.{cond_some, map_some}
 use Rattle.std.proofs.NetLemmas.Ipv6.{IsDotted-not_colon_hex}
 use Rattle.std.specs.Int.{w32, w128, from_be_bytes}
 use Rattle.std.specs.Option.{option_map, option_or}
 use Rattle.std.specs.Net.Addr.{octets_of}
 use Rattle.std.specs.declared.net.ip_addr.IpAddr.{IpAddr}
 use Rattle.std.specs.declared.net.ip_addr.IpAddr.TheVariants as Std
-use Rattle.std.specs.Net.Grammar.{IsDotted, IsGroupsAfter, IsGroups, IsElided, IsColonHex, IsIpText}
+use Rattle.std.specs.Net.Grammar.{IsDotted, IsGroups, IsElided, IsColonHex, IsIpText}
 use Rattle.ty_base.specs.Numbers.{read_number}
 use Rattle.ty_net.specs.declared.address.Ip.{Ip}
 use Rattle.ty_net.specs.declared.address.Ip.TheVariants.{V4, V6}
 use Rattle.ty_net.specs.Addresses.{◌>>=◌, pieces, counted, octet, octets, group, groups, side, halves, filled, eight_by, eight_groups, ip_of}
-use Rattle.ty_net.specs.Grammar.{IsIpv4, IsIpv6, IsIp}
-use Rattle.ty_net.proofs.Pieces.{joined, joined-pieces, bind_some}
+use Rattle.ty_net.specs.Grammar.{IsIp}
+use Rattle.ty_net.proofs.Pieces.{joined-pieces, bind_some}
 use Rattle.ty_net.proofs.Octets.{octets_sound, octets_complete}
 use Rattle.ty_net.proofs.Groups.{groups_complete, groups_sound}
 use Rattle.ty_net.proofs.Halves.{halves_sound, halves_none, halves_complete}
