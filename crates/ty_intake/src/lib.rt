@@ -7,3 +7,6 @@ mod key;
 mod line;
 
 pub use first::{FirstFault, first_items};
+
+#[cfg(test)]
+mod tests;
