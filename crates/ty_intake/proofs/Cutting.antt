@@ -1,5 +1,6 @@
 -- The first line of a feed.
-use Rattle.std.proofs.Common.{◌≡◌, ℕ, zero, suc, ◌<◌, List, [], ◌∷◌, Bool, true, false, ◌==◌, length, take, drop, get_or, refl, arith}
+use Rattle.std.proofs.Common.{◌≡◌, ◌≢◌, ◌∙◌, ap, true≢false, ◌++◌, ◌||◌, ℕ, zero, suc, ◌<◌, List, [], ◌∷◌, Bool, true, false, ◌==◌, length, take, drop, get_or, refl, arith}
+use Rattle.std.specs.List.{list_any}
 use Rattle.ty_intake.specs.Lines.{onto_first, lines}
 
 pub not_true : (b : Bool) → (b ≡ true → ⊥) → b ≡ false
@@ -34,3 +35,26 @@ pub lines-all : (xs : List ℕ) → 0 < length xs → ((i : ℕ) → i < length 
 unfolding lines
 lines-all [] h none = absurd (omega (arith, h))
 lines-all (x ∷ xs) h none = lines-last x xs none
+
+-- the same where a line is known to have no line feed
+
+no-or : (a b : Bool) → (a || b) ≡ false → (a ≡ false) × (b ≡ false)
+no-or true b h = absurd (true≢false h)
+no-or false b h = (refl, h)
+
+pub lines-ended : (line rest : List ℕ) → list_any (λ b. b == 10) line ≡ false → lines (line ++ 10 ∷ rest) ≡ line ∷ lines rest
+lines-ended [] rest h = lines-newline 10 rest refl
+lines-ended (x ∷ xs) rest h =
+    let n : ((x == 10) ≡ false) × (list_any (λ b. b == 10) xs ≡ false) = no-or (x == 10) _ h in
+    lines-other x (xs ++ 10 ∷ rest) n.0 ∙ ap (onto_first x) (lines-ended xs rest n.1)
+
+lines-one : (x : ℕ) (xs : List ℕ) → list_any (λ b. b == 10) (x ∷ xs) ≡ false → lines (x ∷ xs) ≡ (x ∷ xs) ∷ []
+unfolding lines
+lines-one x [] h = let n : ((x == 10) ≡ false) × (false ≡ false) = no-or (x == 10) false h in rw n.0 refl
+lines-one x (y ∷ ys) h =
+    let n : ((x == 10) ≡ false) × (list_any (λ b. b == 10) (y ∷ ys) ≡ false) = no-or (x == 10) _ h in
+    lines-other x (y ∷ ys) n.0 ∙ ap (onto_first x) (lines-one y ys n.1)
+
+pub lines-rest : (line : List ℕ) → list_any (λ b. b == 10) line ≡ false → line ≢ [] → lines line ≡ line ∷ []
+lines-rest [] h ne = absurd (ne refl)
+lines-rest (x ∷ xs) h ne = lines-one x xs h

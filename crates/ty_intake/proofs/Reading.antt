@@ -1,6 +1,6 @@
 -- The item of a line by what the JSON reader answered.
 use Rattle.std.proofs.Common.{◌≡◌, ℕ, List, Bool, true, false, refl}
-use Rattle.std.specs.Prelude.{Option, None, Some, IsUtf8}
+use Rattle.std.specs.Prelude.{None, Some, IsUtf8}
 use Rattle.std.specs.Str.{is_utf8}
 use Rattle.std.proofs.lemmas.Str.{IsUtf8-from_is_utf8, is_utf8-from_IsUtf8}
 use Rattle.serde_json.specs.Data.{Data}

@@ -10,7 +10,6 @@ use Rattle.serde_json.specs.Data.{Data, null, boolean, number, string, array, ob
 use Rattle.serde_json.specs.Find.{get, as_str}
 use Rattle.serde_json.specs.Written.{compact_text}
 use Rattle.ty_base.specs.Statuses.{status_of}
-use Rattle.ty_base.specs.declared.status.Status.{Status}
 use Rattle.ty_base.specs.declared.item.Item.{Item}
 use Rattle.ty_base.specs.declared.item.Item.TheVariants.{Put, Del, State, Mark}
 use Rattle.ty_intake.specs.Lines.{is_blank}

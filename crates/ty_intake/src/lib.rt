@@ -4,9 +4,11 @@
 mod first;
 mod item;
 mod key;
+mod law;
 mod line;
 
 pub use first::{FirstFault, first_items};
+pub use law::lines_are_cut;
 
 #[cfg(test)]
 mod tests;
