@@ -6,7 +6,7 @@ use Rattle.std.proofs.lemmas.List.Elements.{filter_more}
 use Rattle.std.proofs.lemmas.List.FromFn.{map-range_with_len_more}
 use Rattle.ty_base.specs.declared.item.Item.{Item}
 use Rattle.ty_base.specs.declared.entry.Entry.{Entry}
-use Rattle.ty_base.specs.Feed.{is_closing, closings, cuts, cut, last, world, world_at, last_of, entry, book, changes, firsts, key_of, cuts_after, deltas, replay}
+use Rattle.ty_base.specs.Feed.{is_closing, closings, cuts, cut, last, world, last_of, entry, book, changes, firsts, key_of, cuts_after, deltas, replay}
 use Rattle.ty_base.proofs.Cuts.{Follows, follow_at, all_follow}
 use Rattle.ty_plain.specs.Scans.{last_before, entry_between, IsRising}
 

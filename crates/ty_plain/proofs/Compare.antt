@@ -1,5 +1,5 @@
 -- Two worlds compared at the keys of the items between them.
-use Rattle.std.proofs.Common.{◌≡◌, ℕ, ◌+◌, ◌-◌, ◌<◌, ◌≤◌, Bool, true, false, cond, ◌&&◌, ◌||◌, List, [], ◌∷◌, ◌++◌, refl, sym, ap, ◌∙◌, true≢false, suc, length, drop, get_or, drop-cons, add-one, append_assoc}
+use Rattle.std.proofs.Common.{◌≡◌, ℕ, ◌+◌, ◌<◌, Bool, true, false, cond, ◌&&◌, ◌||◌, List, [], ◌∷◌, ◌++◌, refl, sym, ap, ◌∙◌, true≢false, length, drop, get_or, drop-cons, add-one, append_assoc}
 use Rattle.std.specs.Prelude.{Option, None, Some}
 use Rattle.std.specs.Bool.{Decides}
 use Rattle.std.specs.List.{fold, list_any, list_all, filter_map}
@@ -10,7 +10,7 @@ use Rattle.ty_base.specs.declared.item.Item.{Item}
 use Rattle.ty_base.specs.declared.item.Item.TheVariants.{Put, Del, State, Mark}
 use Rattle.ty_base.specs.Feed.{World, after, get, same_world, key_of, world_at, cuts_after}
 use Rattle.ty_base.specs.Statuses.{same_status}
-use Rattle.ty_base.proofs.Pairs.{IsInOrder, same_pairs, worlds_decide, same_statuses, itself, kept_key, in_order-after}
+use Rattle.ty_base.proofs.Pairs.{IsInOrder, same_pairs, worlds_decide, same_statuses, itself, kept_key}
 use Rattle.ty_plain.specs.Scans.{same_option, agrees}
 
 same_options : (x y : Option (List ℕ)) → same_option x y ≡ true → x ≡ y

@@ -1,15 +1,12 @@
 -- What one more item changes.
-use Rattle.std.proofs.Common.{◌≡◌, ℕ, ◌+◌, ◌-◌, ◌<◌, ◌≤◌, Bool, true, false, cond, List, [], ◌∷◌, ◌++◌, length, take, get_or, refl, sym, ap, ◌∙◌, arith, add_comm, append-nil}
-use Rattle.std.specs.Prelude.{Option, None, Some}
-use Rattle.std.specs.List.{filter, range_with_len, suffix_len, fold}
-use Rattle.std.specs.Str.{bytes_eq}
-use Rattle.std.specs.Ordering.{nat_cmp}
-use Rattle.std.specs.Cmp.Lexicographic.{slice_cmp}
+use Rattle.std.proofs.Common.{◌≡◌, ℕ, ◌+◌, ◌-◌, ◌<◌, Bool, true, false, cond, List, [], ◌∷◌, ◌++◌, length, take, get_or, refl, sym, ap, ◌∙◌, arith, add_comm, append-nil}
+use Rattle.std.specs.Prelude.{None, Some}
+use Rattle.std.specs.List.{filter, range_with_len, suffix_len}
 use Rattle.std.proofs.lemmas.List.Elements.{filter-append}
 use Rattle.std.proofs.lemmas.List.Sums.{suffix_len-take_yes, suffix_len-take_no, fold_more}
 use Rattle.ty_base.specs.declared.item.Item.{Item}
 use Rattle.ty_base.specs.declared.item.Item.TheVariants.{Put, Del, State, Mark}
-use Rattle.ty_base.specs.Feed.{World, get, start, folded, after, is_update, is_closing}
+use Rattle.ty_base.specs.Feed.{World, get, start, folded, after, is_update}
 use Rattle.ty_plain.specs.Scans.{said}
 use Rattle.ty_base.proofs.Cuts.{range_split}
 use Rattle.ty_base.proofs.Pairs.{get-put_value}

@@ -1,5 +1,5 @@
 -- Small lists of items with the books that they are to have. Keys and values are single bytes.
-use Rattle.std.specs.Prelude.{ℕ, List, [], ◌∷◌, map, length, Some, refl}
+use Rattle.std.specs.Prelude.{ℕ, List, [], ◌∷◌, map, length}
 use Rattle.std.specs.List.{range_with_len}
 use Rattle.ty_base.specs.declared.item.Item.{Item}
 use Rattle.ty_base.specs.declared.item.Item.TheVariants.{Put, Del, State, Mark}

@@ -1,5 +1,5 @@
-use Rattle.std.proofs.Common.{◌≡◌, ◌∙◌, ap, sym, false, cond}
-use Rattle.std.specs.Prelude.{Option, None, Some}
+use Rattle.std.proofs.Common.{◌∙◌, ap, sym, cond}
+use Rattle.std.specs.Prelude.{None, Some}
 use Rattle.std.specs.Option.{option_copied}
 use Rattle.ty_base.specs.Feed as feed
 use Rattle.ty_plain.specs.Scans.{updated}

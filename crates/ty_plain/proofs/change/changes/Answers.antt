@@ -1,4 +1,4 @@
-use Rattle.std.proofs.Common.{◌≡◌, ◌∙◌, ap, sym, ◌++◌, take}
+use Rattle.std.proofs.Common.{◌∙◌, ap, sym, ◌++◌, take}
 use Rattle.ty_base.specs.Feed as feed
 use Rattle.ty_plain.specs.Scans.{fresh}
 use Rattle.ty_plain.proofs.Firsts.{step_some, step_none}

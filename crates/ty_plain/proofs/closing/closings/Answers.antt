@@ -1,4 +1,4 @@
-use Rattle.std.proofs.Common.{arith, ◌≡◌, ◌+◌, take, cond, ap, ◌∙◌, sym}
+use Rattle.std.proofs.Common.{arith, ◌+◌, take, cond, ap, ◌∙◌, sym}
 use Rattle.std.specs.List.{suffix_len}
 use Rattle.ty_base.specs.Feed as feed
 use Rattle.ty_plain.proofs.Steps.{closing_pushed, closing_skipped, run_more}

@@ -1,4 +1,4 @@
-use Rattle.std.proofs.Common.{◌≡◌, ◌+◌, ◌≤◌, take}
+use Rattle.std.proofs.Common.{◌≡◌, ◌≤◌, take}
 use Rattle.std.specs.List.{filter, range_with_len, suffix_len}
 use Rattle.ty_base.specs.Feed as feed
 use Rattle.ty_plain.proofs.closing.closings.Given as goal

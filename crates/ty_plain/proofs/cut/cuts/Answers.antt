@@ -1,6 +1,4 @@
-use Rattle.std.proofs.Common.{◌≡◌, ◌∙◌, List, ℕ, ap, sym, subst, length}
-use Rattle.std.specs.Prelude.{IfOk}
-use Rattle.ty_base.specs.Feed as feed
+use Rattle.std.proofs.Common.{◌∙◌, List, ℕ, sym, subst, length}
 use Rattle.ty_base.specs.Feed.{cuts}
 use Rattle.ty_plain.specs.Scans.{IsRising}
 use Rattle.ty_plain.proofs.Books.{closings_rise}

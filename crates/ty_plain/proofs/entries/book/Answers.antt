@@ -1,4 +1,4 @@
-use Rattle.std.proofs.Common.{◌≡◌, ◌∙◌, ◌≤◌, ◌<◌, List, ℕ, ap, sym, subst, arith, length, map}
+use Rattle.std.proofs.Common.{◌≡◌, ◌∙◌, List, ℕ, ap, sym, subst, arith, length, map}
 use Rattle.std.specs.List.{range_with_len}
 use Rattle.ty_base.specs.Feed as feed
 use Rattle.ty_base.specs.Feed.{cuts, book}

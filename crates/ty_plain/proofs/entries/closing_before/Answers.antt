@@ -1,4 +1,4 @@
-use Rattle.std.proofs.Common.{◌≡◌, ◌∙◌, arith}
+use Rattle.std.proofs.Common.{◌∙◌, arith}
 use Rattle.ty_plain.proofs.Books.{before_taken, before_passed}
 use Rattle.ty_plain.proofs.entries.closing_before.Goals as goal
 use Rattle.ty_plain.proofs.entries.closing_before.Goals.{then-p-c, else-p-c}

@@ -1,4 +1,4 @@
-use Rattle.std.proofs.Common.{arith, take, ap, sym, ◌∙◌, ◌&&◌}
+use Rattle.std.proofs.Common.{take, ap, ◌∙◌, ◌&&◌}
 use Rattle.std.specs.List.{slice_range, list_all}
 use Rattle.ty_base.specs.Feed as feed
 use Rattle.ty_base.proofs.Pairs.{in_order-after}
