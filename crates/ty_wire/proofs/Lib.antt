@@ -1,4 +1,9 @@
+pub mod Feeding
+pub mod Fronts
+pub mod Members
+pub mod Moving
 pub mod Parts
+pub mod Read
 pub mod Sent
 pub mod Short
 pub mod Spelling

@@ -1,6 +1,11 @@
 pub mod Limits
 pub mod Wire
-pub mod Tokens
 pub mod Cutting
 pub mod Talk
+pub mod Stream
+pub mod Held
+pub mod Tokens
 pub mod Sending
+pub mod Members
+pub mod Bodies
+pub mod Steps

@@ -2,13 +2,19 @@
 #![tactic(auto)]
 
 mod cutting;
+mod frames;
 mod grouping;
 mod laws;
 mod message;
+mod reading;
+mod splitting;
+mod unfinished;
 mod writing;
 
 pub use cutting::cut_kvs;
+pub use frames::{BYTES_LIMIT, Frames, Got};
 pub use grouping::write_group;
 pub use laws::short_messages_fit;
 pub use message::{Msg, Msgs};
+pub use splitting::WireFault;
 pub use writing::{BODY_LIMIT, DELTAS_LIMIT, KEY_LIMIT, VALUE_LIMIT, fits, write};

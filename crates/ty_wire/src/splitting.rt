@@ -1,0 +1,115 @@
+// The frames at the front of bytes.
+ghost use Rattle.std.specs.List.{AllByRecursion};
+ghost use Rattle.ty_wire.specs.Wire.{IsWire};
+ghost use Rattle.std.specs.Prelude.{◌≡◌, ◌≤◌, ◌<◌, ◌+◌, ◌^◌, length, IfOk};
+ghost use Rattle.ty_wire.specs.Stream.{told_len};
+ghost use Rattle.ty_wire.specs.Steps.{IsNext, IsFound};
+
+use crate::message::{Msg, Msgs};
+use crate::reading::{Body, read_body};
+use crate::writing::BODY_LIMIT;
+use std::alloc::Global;
+use ty_base::NoMemory;
+
+/// Why no message follows. Frames count from 1.
+#[derive(Clone, Copy, Debug, PartialEq, Eq)]
+pub enum WireFault {
+    /// The frame tells a body of `len` bytes, more than 8,388,608. It is told at the fourth byte.
+    TooLong { frame: u64, len: u64 },
+    /// The frame's body is no JSON text (RFC 8259) that `serde_json` reads.
+    NotJson { frame: u64 },
+    /// The frame's body is a JSON text, and no message's spelling.
+    Shape { frame: u64 },
+    /// Byte number 2^40 came, which belongs to no frame.
+    TooMuch,
+}
+
+// Messages, why no more follow if that is known, and how many bytes their frames have.
+#[derive(Drop)]
+pub(crate) struct Found {
+    pub msgs: Msgs,
+    pub fault: Option<WireFault>,
+    pub used: usize,
+}
+
+// What stands at the front of bytes: the beginning of a frame, a message in a frame of `len` bytes, or a fault.
+#[derive(Drop)]
+pub(crate) enum Next {
+    Part,
+    Message { msg: Msg, len: usize },
+    Fault(WireFault),
+}
+
+// The frames at the front of bytes, behind those of `msgs`, where `count` came before them all.
+pub(crate) fn read_frames(
+    alloc: Global,
+    msgs: Msgs,
+    bytes: &[u8],
+    count: u64,
+) -> Result<Found, NoMemory>
+    requires each { AllByRecursion IsWire msgs }
+    requires few { count + length msgs + length bytes.now < 2 ^ 40 }
+    ensures { IfOk result (λ f. IsFound count msgs bytes.now f) }
+{
+    let mut msgs = msgs;
+    let mut number = count + msgs.len() as u64 + 1;
+    let mut used = 0;
+    loop {
+        match next_frame(alloc, &bytes[used..], number)? {
+            Next::Part => {
+                return Ok(Found {
+                    msgs,
+                    fault: None,
+                    used,
+                });
+            }
+            Next::Fault(fault) => {
+                return Ok(Found {
+                    msgs,
+                    fault: Some(fault),
+                    used,
+                });
+            }
+            Next::Message { msg, len } => {
+                msgs.push(msg)?;
+                used += len;
+                number += 1;
+            }
+        }
+    }
+}
+
+// What stands at the front of bytes, where the next frame has this number.
+pub(crate) fn next_frame(alloc: Global, bytes: &[u8], number: u64) -> Result<Next, NoMemory>
+    ensures { IfOk result (λ n. IsNext number bytes.now n) }
+{
+    if bytes.len() < 4 {
+        return Ok(Next::Part);
+    }
+    let len = len_at(bytes) as usize;
+    if len > BODY_LIMIT {
+        return Ok(Next::Fault(WireFault::TooLong {
+            frame: number,
+            len: len as u64,
+        }));
+    }
+    let (_, after) = bytes.split_at(4);
+    if after.len() < len {
+        return Ok(Next::Part);
+    }
+    let (text, _) = after.split_at(len);
+    match read_body(alloc, text)? {
+        Body::Message(msg) => Ok(Next::Message { msg, len: 4 + len }),
+        Body::NotJson => Ok(Next::Fault(WireFault::NotJson { frame: number })),
+        Body::Shape => Ok(Next::Fault(WireFault::Shape { frame: number })),
+    }
+}
+
+// The length that four bytes tell, highest first.
+pub(crate) fn len_at(bytes: &[u8]) -> u32
+    requires { 4 ≤ length bytes.now }
+    ensures { result ≡ told_len bytes.now }
+{
+    let (front, _) = bytes.split_at(4);
+    u32::from_be_bytes([front[0], front[1], front[2], front[3]])
+}
