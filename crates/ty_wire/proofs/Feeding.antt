@@ -77,7 +77,7 @@ over-false false k e n = absurd (true≢false n)
 
 -- ---- a fault stays
 
-told_len-more : (rest extra : List ℕ) → 4 ≤ length rest → told_len (rest ++ extra) ≡ told_len rest
+pub told_len-more : (rest extra : List ℕ) → 4 ≤ length rest → told_len (rest ++ extra) ≡ told_len rest
 told_len-more rest extra h = ap (from_be_bytes w32) (take-append-le 4 rest extra h)
 
 has-more : (rest extra : List ℕ) → HasBody rest → HasBody (rest ++ extra)

@@ -1,3 +1,4 @@
+pub mod Back
 pub mod Feeding
 pub mod Fronts
 pub mod Members
@@ -7,3 +8,4 @@ pub mod Read
 pub mod Sent
 pub mod Short
 pub mod Spelling
+pub mod Utf8

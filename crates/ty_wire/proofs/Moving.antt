@@ -13,7 +13,7 @@ use Rattle.ty_wire.specs.declared.message.Msg.{Msg}
 use Rattle.ty_wire.specs.declared.splitting.WireFault.{WireFault}
 use Rattle.ty_wire.specs.declared.splitting.Found.{Found}
 
-frame-len : (m : Msg) → length (frame m) ≡ 4 + length (body m)
+pub frame-len : (m : Msg) → length (frame m) ≡ 4 + length (body m)
 frame-len m = length-append (to_be_bytes w32 (length (body m))) (body m)
 
 frames-len : (ms : List Msg) → length ms ≤ length (frames ms)

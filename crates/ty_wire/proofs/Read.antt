@@ -26,7 +26,7 @@ use Rattle.ty_wire.specs.declared.message.Msg.TheVariants.{ClientHello, ServerHe
 use Rattle.ty_base.specs.declared.delta.Kind.{Kind}
 use Rattle.ty_base.specs.declared.delta.Delta.{Delta}
 
-small : (n : ℕ) → nat_lt n (2 ^ 64) ≡ true → n < 2 ^ 64
+pub small : (n : ℕ) → nat_lt n (2 ^ 64) ≡ true → n < 2 ^ 64
 small n h = grind (arith, nat_tests)
 
 -- ---- numbers

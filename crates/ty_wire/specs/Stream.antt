@@ -25,6 +25,14 @@ pub record Reads (bytes : List ℕ) (ms : List Msg) (rest : List ℕ) : Type 0 w
   pub each : AllByRecursion IsWire ms
   pub part : IsPart rest
 
+-- the bytes read as the first of these messages, with no fault
+pub record Begins (bytes : List ℕ) (ms : List Msg) : Type 0 where
+  pub read : List Msg
+  pub later : List Msg
+  pub rest : List ℕ
+  pub whole : ms ≡ read ++ later
+  pub reads : Reads bytes read rest
+
 -- a whole frame within the limit
 pub record HasBody (rest : List ℕ) : Type 0 where
   pub head : 4 ≤ length rest

@@ -1,5 +1,6 @@
 -- The bytes of a message: its body, which is compact JSON (RFC 8259), behind the body's length as four bytes, highest first.
-use Rattle.std.specs.Prelude.{◌≡◌, ℕ, ◌^◌, List, [], ◌∷◌, ◌++◌, length, flat_map, codes, decimal, Bool, true, ◌&&◌, nat_lt, nat_le, Option, None, Some}
+use Rattle.std.specs.Prelude.{◌≡◌, ℕ, ◌^◌, List, [], ◌∷◌, ◌++◌, length, flat_map, codes, decimal, Bool, true, ◌&&◌, nat_lt, nat_le, Option, None, Some, ⊤}
+use Rattle.std.specs.List.{AllByRecursion}
 use Rattle.std.specs.Str.{IsUtf8}
 use Rattle.std.specs.Int.{to_be_bytes, w32}
 use Rattle.json.specs.Print.{quoted}
@@ -74,3 +75,21 @@ pub record Spells (bytes : List ℕ) (m : Msg) : Type 0 where
 -- the body is UTF-8 and the message fits
 abbrev pub IsWire : Msg → Type 0
 IsWire m = Spells (body m) m
+
+-- The texts of a message are UTF-8 (RFC 3629), as those of the program are
+
+abbrev pub ValueHasUtf8 : Option (List ℕ) → Type 0
+ValueHasUtf8 None = ⊤
+ValueHasUtf8 (Some v) = IsUtf8 v
+
+abbrev pub DeltaHasUtf8 : Delta → Type 0
+DeltaHasUtf8 d = IsUtf8 d.key × ValueHasUtf8 d.value
+
+abbrev pub HasUtf8 : Msg → Type 0
+HasUtf8 (ClientHello version host) = IsUtf8 host
+HasUtf8 (ServerHello version) = ⊤
+HasUtf8 (Kvs ds) = AllByRecursion DeltaHasUtf8 ds
+HasUtf8 (StatusMsg s) = ⊤
+HasUtf8 (Crumb n) = ⊤
+HasUtf8 (Ping ts) = ⊤
+HasUtf8 (Pong ts) = ⊤

@@ -1,8 +1,17 @@
 // Laws of the definitions.
-ghost use Rattle.std.specs.Prelude.{◌≡◌, ◌≤◌, ◌<◌, ◌^◌, List, ℕ, true, length};
+ghost use Rattle.std.specs.Prelude.{◌≡◌, ◌≤◌, ◌<◌, ◌^◌, ◌++◌, List, ℕ, [], Option, true, length, flat_map};
+ghost use Rattle.std.specs.List.{AllByRecursion};
 ghost use Rattle.ty_base.specs.declared.status.Status.{Status};
-ghost use Rattle.ty_wire.specs.Wire.{message_fits};
-ghost use Rattle.ty_wire.specs.declared.message.Msg.TheVariants.{ClientHello, ServerHello, Status as StatusMsg, Crumb, Ping, Pong};
+ghost use Rattle.ty_base.specs.declared.delta.Delta.{Delta};
+ghost use Rattle.ty_wire.specs.Limits.{IsWithinLimits};
+ghost use Rattle.ty_wire.specs.Wire.{message_fits, frame, frames, Spells, IsJson, IsWire, HasUtf8, DeltaHasUtf8};
+ghost use Rattle.ty_wire.specs.Cutting.{cut_deltas};
+ghost use Rattle.ty_wire.specs.Talk.{group};
+ghost use Rattle.ty_wire.specs.Stream.{Brings, Reads, Begins, Stands};
+ghost use Rattle.ty_wire.specs.Held.{Held};
+ghost use Rattle.ty_wire.specs.declared.message.Msg.{Msg};
+ghost use Rattle.ty_wire.specs.declared.splitting.WireFault.{WireFault};
+ghost use Rattle.ty_wire.specs.declared.message.Msg.TheVariants.{ClientHello, ServerHello, Kvs, Status as StatusMsg, Crumb, Ping, Pong};
 
 /// A message without deltas fits, a client hello where its host has at most 1,048,576 bytes.
 pub fn short_messages_fit()
@@ -12,4 +21,37 @@ pub fn short_messages_fit()
     ensures crumb { (n : ℕ) → n < 2 ^ 64 → message_fits (Crumb n) ≡ true }
     ensures ping { (ts : ℕ) → ts < 2 ^ 64 → message_fits (Ping ts) ≡ true }
     ensures pong { (ts : ℕ) → ts < 2 ^ 64 → message_fits (Pong ts) ≡ true }
+{}
+
+/// A message has one spelling and a spelling one message, and a spelling is a JSON text. A message that fits, whose
+/// texts are UTF-8, has one.
+pub fn one_spelling()
+    ensures message { (bytes : List ℕ) (m n : Msg) → Spells bytes m → Spells bytes n → m ≡ n }
+    ensures bytes { (x y : List ℕ) (m : Msg) → Spells x m → Spells y m → x ≡ y }
+    ensures json { (bytes : List ℕ) (m : Msg) → Spells bytes m → IsJson bytes }
+    ensures utf8 { (m : Msg) → HasUtf8 m → message_fits m ≡ true → IsWire m }
+{}
+
+/// No frame stands at the front of another, so bytes read as one list of messages and one rest, and bring one
+/// fault or none. What a `Frames` stands for, it has given.
+pub fn one_reading()
+    ensures prefix { (m n : Msg) (more : List ℕ) → IsWire m → IsWire n → frame m ++ more ≡ frame n → (m ≡ n) × (more ≡ []) }
+    ensures reads { (bytes : List ℕ) (ms ns : List Msg) (x y : List ℕ) → Reads bytes ms x → Reads bytes ns y → (ms ≡ ns) × (x ≡ y) }
+    ensures outcome { (bytes : List ℕ) (ms ns : List Msg) (f g : Option WireFault) → Brings bytes ms f → Brings bytes ns g → (ms ≡ ns) × (f ≡ g) }
+    ensures brings { (f : Held) (bytes : List ℕ) (ms : List Msg) → Stands f bytes ms → Brings bytes ms f.fault }
+{}
+
+/// Frames read back as their messages, and bytes at their front as the first of these, with no fault.
+pub fn frames_read_back()
+    ensures whole { (ms : List Msg) → AllByRecursion IsWire ms → Reads (frames ms) ms [] }
+    ensures front { (ms : List Msg) (bytes more : List ℕ) → AllByRecursion IsWire ms → bytes ++ more ≡ frames ms → Begins bytes ms }
+{}
+
+/// The parts of a cutting are the deltas, in order, and each fits a message. A group of deltas within the limits,
+/// whose texts are UTF-8, has frames.
+pub fn cutting_keeps_deltas()
+    ensures joined { (ds : List Delta) → flat_map (λ part. part) (cut_deltas ds) ≡ ds }
+    ensures fit { (ds : List Delta) → IsWithinLimits ds → AllByRecursion (λ part. message_fits (Kvs part) ≡ true) (cut_deltas ds) }
+    ensures group { (ds : List Delta) (status : Option Status) (n : ℕ) → IsWithinLimits ds → AllByRecursion DeltaHasUtf8 ds → n < 2 ^ 64
+        → AllByRecursion IsWire (group ds status n) }
 {}

@@ -14,7 +14,9 @@ mod writing;
 pub use cutting::cut_kvs;
 pub use frames::{BYTES_LIMIT, Frames, Got};
 pub use grouping::write_group;
-pub use laws::short_messages_fit;
+pub use laws::{
+    cutting_keeps_deltas, frames_read_back, one_reading, one_spelling, short_messages_fit,
+};
 pub use message::{Msg, Msgs};
 pub use splitting::WireFault;
 pub use writing::{BODY_LIMIT, DELTAS_LIMIT, KEY_LIMIT, VALUE_LIMIT, fits, write};
