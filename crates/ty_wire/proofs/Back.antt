@@ -1,5 +1,5 @@
 -- Frames read back as their messages, and their front as the first of these.
-use Rattle.std.proofs.Common.{◌≡◌, ℕ, ◌+◌, ◌<◌, ◌≤◌, List, [], ◌∷◌, ◌++◌, length, take, drop, refl, sym, ap, subst, ◌∙◌, append_assoc, append-nil, arith, inl, inr, length-append}
+use Rattle.std.proofs.Common.{◌≡◌, ℕ, ◌<◌, ◌≤◌, List, [], ◌∷◌, ◌++◌, length, take, drop, refl, sym, ap, ◌∙◌, append_assoc, append-nil, arith, inl, inr}
 use Rattle.std.specs.List.{AllByRecursion}
 use Rattle.std.proofs.lemmas.Bool.{cases_lt}
 use Rattle.std.proofs.lemmas.List.{take-append-drop, take-append-le, drop-append-le}
@@ -28,8 +28,7 @@ part-of m bytes more later w e h =
 behind : (m : Msg) (bytes more later : List ℕ) → bytes ++ more ≡ frame m ++ later → length (frame m) ≤ length bytes
     → (bytes ≡ frame m ++ drop (length (frame m)) bytes) × (drop (length (frame m)) bytes ++ more ≡ later)
 behind m bytes more later e h =
-    let n : ℕ = length (frame m) in
-    (
+    let n : ℕ = length (frame m) in (
       sym (take-append-drop n bytes) ∙ ap (λ (l : List ℕ). l ++ drop n bytes) (sym (take-append-le n bytes more h) ∙ ap (take n) e ∙ take-append_seam (frame m) later),
       sym (drop-append-le n bytes more h) ∙ ap (drop n) e ∙ drop-append_seam (frame m) later,
     )

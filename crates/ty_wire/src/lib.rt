@@ -8,6 +8,8 @@ mod laws;
 mod message;
 mod reading;
 mod splitting;
+#[cfg(test)]
+mod tests;
 mod unfinished;
 mod writing;
 

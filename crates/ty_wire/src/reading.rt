@@ -127,9 +127,7 @@ fn small_in(name: Name, value: &Value) -> Option<Msg>
         Name::ServerHello => Some(Msg::ServerHello {
             version: number_at(value, "version")?,
         }),
-        Name::Status => Some(Msg::Status(read_status(
-            text_at(value, "status")?.as_bytes(),
-        )?)),
+        Name::Status => Some(Msg::Status(read_status(text_at(value, "status")?.as_bytes())?)),
         Name::Crumb => Some(Msg::Crumb {
             n: number_at(value, "n")?,
         }),

@@ -1,4 +1,4 @@
-use Rattle.std.proofs.Common.{◌≡◌, ◌∙◌, ◌++◌, ◌+◌, rules, refl, ap, subst, sym, List, ℕ}
+use Rattle.std.proofs.Common.{◌∙◌, ◌+◌, refl, subst, List, ℕ}
 use Rattle.std.specs.Prelude.{IfOk}
 use Rattle.std.proofs.lemmas.List.{take_rest}
 use Rattle.ty_wire.specs.Steps.{IsMoved, IsNext}
@@ -10,10 +10,10 @@ pub returns-in-Fault : goal.returns-in-Fault
 returns-in-Fault c =
     let P : Next → Type 0 = λ n. IsNext (c.args.count + 1) c.as_slice.result.now n in
     ends-bad c.args.count c.args.rest.now.items c.args.piece.now c.as_slice.result.now c.empty.new.rest.items c.in_ok-used.used c.new-in-Fault.result c.in-Fault.fault
-        (c.as_slice.ensures ∙ c.in_ok-used.ensures.items)
-        (subst P c.in-Fault.is c.in_ok-next_frame.ensures)
-        c.empty.ensures
-        c.new-in-Fault.ensures
+    (c.as_slice.ensures ∙ c.in_ok-used.ensures.items)
+    (subst P c.in-Fault.is c.in_ok-next_frame.ensures)
+    c.empty.ensures
+    c.new-in-Fault.ensures
 
 pub returns-in_ok-push-in-Message : goal.returns-in_ok-push-in-Message
 returns-in_ok-push-in-Message c =
@@ -21,9 +21,9 @@ returns-in_ok-push-in-Message c =
     let B : List ℕ → Type 0 = λ b. IfOk c.read_piece-in-Message.result (λ m. IsMoved c.args.count b c.read_piece-in-Message.new.rest.items m) in
     let N : List ℕ → Type 0 = λ b. IsNext (c.args.count + 1) b c.in_ok-next_frame.field-0 in
     subst B (completed c.args.rest.now.items c.args.piece.now c.complete.new.rest.items _ c.in_ok-used.used c.in-Message.len c.in-Message.msg c.push.new.self
-        c.in_ok-used.ensures.items
-        (subst P c.in-Message.is (subst N c.as_slice.ensures c.in_ok-next_frame.ensures))
-        c.in_ok-used.ensures.one
-        (behind_none _ _ _ _ c.in_ok-push-in-Message.ensures.ok c.new-msgs.ensures refl)
-        (take_rest c.args.piece.now c.in_ok-used.used))
+    c.in_ok-used.ensures.items
+    (subst P c.in-Message.is (subst N c.as_slice.ensures c.in_ok-next_frame.ensures))
+    c.in_ok-used.ensures.one
+    (behind_none _ _ _ _ c.in_ok-push-in-Message.ensures.ok c.new-msgs.ensures refl)
+    (take_rest c.args.piece.now c.in_ok-used.used))
     c.read_piece-in-Message.ensures

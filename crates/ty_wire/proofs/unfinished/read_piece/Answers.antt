@@ -1,4 +1,3 @@
-use Rattle.std.proofs.Common.{◌≡◌, ◌∙◌, ◌++◌, arith, rules, ap, [], List, ℕ, drop}
 use Rattle.std.proofs.lemmas.List.{take_rest}
 use Rattle.ty_wire.proofs.Moving.{behind_none, read-on, read-fault}
 use Rattle.ty_wire.proofs.unfinished.read_piece.Goals as goal
