@@ -8,4 +8,5 @@ pub mod Read
 pub mod Sent
 pub mod Short
 pub mod Spelling
+pub mod Talking
 pub mod Utf8

@@ -1,5 +1,5 @@
 -- What a server says on a connection about a book, a list of entries.
-use Rattle.std.specs.Prelude.{◌≡◌, ℕ, ◌<◌, ◌≤◌, List, [], ◌∷◌, ◌++◌, length, take, map, flat_map, Bool, true, false, cond, Option, None, Some, refl}
+use Rattle.std.specs.Prelude.{◌≡◌, ℕ, ◌<◌, ◌≤◌, ◌^◌, nat_lt, List, [], ◌∷◌, ◌++◌, length, take, map, flat_map, Bool, true, false, cond, Option, None, Some, refl}
 use Rattle.std.specs.List.{filter, slice_range}
 use Rattle.ty_base.specs.Feed.{World, replay}
 use Rattle.ty_base.specs.Statuses.{same_status}
@@ -69,6 +69,16 @@ is_no_ping (StatusMsg s) = true
 is_no_ping (Crumb n) = true
 is_no_ping (Ping ts) = false
 is_no_ping (Pong ts) = true
+
+-- a ping's time is a number of 64 bits
+abbrev pub ping_fits : Msg → Bool
+ping_fits (ClientHello version host) = true
+ping_fits (ServerHello version) = true
+ping_fits (Kvs ds) = true
+ping_fits (StatusMsg s) = true
+ping_fits (Crumb n) = true
+ping_fits (Ping ts) = nat_lt ts (2 ^ 64)
+ping_fits (Pong ts) = true
 
 -- the numbers rise from the first, and none is past the entries
 abbrev pub Rise : ℕ → List ℕ → ℕ → Type 0

@@ -1,12 +1,13 @@
 // Laws of the definitions.
 ghost use Rattle.std.specs.Prelude.{◌≡◌, ◌≤◌, ◌<◌, ◌^◌, ◌++◌, List, ℕ, [], Option, true, length, flat_map};
-ghost use Rattle.std.specs.List.{AllByRecursion};
+ghost use Rattle.std.specs.List.{AllByRecursion, list_all};
 ghost use Rattle.ty_base.specs.declared.status.Status.{Status};
+ghost use Rattle.ty_base.specs.declared.entry.Entry.{Entry};
 ghost use Rattle.ty_base.specs.declared.delta.Delta.{Delta};
-ghost use Rattle.ty_wire.specs.Limits.{IsWithinLimits};
+ghost use Rattle.ty_wire.specs.Limits.{IsWithinLimits, entry_passes};
 ghost use Rattle.ty_wire.specs.Wire.{message_fits, frame, frames, Spells, IsJson, IsWire, HasUtf8, DeltaHasUtf8};
 ghost use Rattle.ty_wire.specs.Cutting.{cut_deltas};
-ghost use Rattle.ty_wire.specs.Talk.{group};
+ghost use Rattle.ty_wire.specs.Talk.{group, talk, ping_fits, Rise, IsTalk};
 ghost use Rattle.ty_wire.specs.Stream.{Brings, Reads, Begins, Stands};
 ghost use Rattle.ty_wire.specs.Held.{Held};
 ghost use Rattle.ty_wire.specs.declared.message.Msg.{Msg};
@@ -54,4 +55,13 @@ pub fn cutting_keeps_deltas()
     ensures fit { (ds : List Delta) → IsWithinLimits ds → AllByRecursion (λ part. message_fits (Kvs part) ≡ true) (cut_deltas ds) }
     ensures group { (ds : List Delta) (status : Option Status) (n : ℕ) → IsWithinLimits ds → AllByRecursion DeltaHasUtf8 ds → n < 2 ^ 64
         → AllByRecursion IsWire (group ds status n) }
+{}
+
+/// The messages of a talk have frames, where the texts of its entries are UTF-8 and within the limits. So the front
+/// of a talk's bytes reads without a fault.
+pub fn talks_have_frames()
+    ensures talk { (entries : List Entry) (e0 : ℕ) (numbers : List ℕ) → list_all entry_passes entries ≡ true → length entries < 2 ^ 64
+        → Rise e0 numbers (length entries) → AllByRecursion IsWire (talk entries e0 numbers) }
+    ensures pings { (entries : List Entry) (e0 : ℕ) (numbers : List ℕ) (ms : List Msg) → list_all entry_passes entries ≡ true → length entries < 2 ^ 64
+        → IsTalk entries e0 numbers ms → list_all ping_fits ms ≡ true → AllByRecursion IsWire ms }
 {}

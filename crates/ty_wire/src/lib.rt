@@ -18,6 +18,7 @@ pub use frames::{BYTES_LIMIT, Frames, Got};
 pub use grouping::write_group;
 pub use laws::{
     cutting_keeps_deltas, frames_read_back, one_reading, one_spelling, short_messages_fit,
+    talks_have_frames,
 };
 pub use message::{Msg, Msgs};
 pub use splitting::WireFault;
