@@ -1,5 +1,5 @@
 -- The messages of a talk have frames, where the texts of its entries are UTF-8 and within the limits.
-use Rattle.std.proofs.Common.{T, ◌≡◌, ℕ, ◌+◌, ◌-◌, ◌<◌, ◌≤◌, ◌^◌, Bool, true, false, cond, not, ◌&&◌, nat_lt, nat_le, List, [], ◌∷◌, ◌++◌, length, take, drop, map, flat_map, refl, sym, ap, subst, ◌∙◌, arith, ltb-true}
+use Rattle.std.proofs.Common.{◌≡◌, ℕ, ◌-◌, ◌<◌, ◌≤◌, ◌^◌, Bool, true, false, cond, not, ◌&&◌, nat_lt, nat_le, List, [], ◌∷◌, length, take, drop, flat_map, refl, sym, ap, subst, ◌∙◌, arith, ltb-true}
 use Rattle.std.specs.Prelude.{Option, None, Some}
 use Rattle.std.specs.List.{AllByRecursion, list_all, filter, fold, slice_range}
 use Rattle.std.specs.Str.{is_utf8, bytes_eq}
@@ -10,13 +10,13 @@ use Rattle.std.specs.FinMap.Entries.{by_order}
 use Rattle.std.proofs.lemmas.Str.{IsUtf8-from_is_utf8}
 use Rattle.std.proofs.lemmas.List.Folds.{list_all-append}
 use Rattle.ty_base.specs.Feed.{Pairs, World, start, insert, put_value, changed, published, replay}
-use Rattle.ty_base.specs.Passing.{option_passes, pair_passes, delta_passes}
+use Rattle.ty_base.specs.Passing.{option_passes, pair_passes}
 use Rattle.ty_base.proofs.Passing.{both, left, right, all_take, all_drop}
 use Rattle.ty_base.specs.declared.entry.Entry.{Entry}
 use Rattle.ty_base.specs.declared.delta.Delta.{Delta}
-use Rattle.ty_wire.specs.Limits.{IsWithinLimits, within_limits, delta_fits, key_passes, value_passes, text_passes, entry_passes, value_len}
-use Rattle.ty_wire.specs.Wire.{IsWire, ValueHasUtf8, DeltaHasUtf8, message_fits}
-use Rattle.ty_wire.specs.Talk.{snapshot, world_after, deltas_between, status_change, first_group, group_between, groups_after, opening, talk, is_no_ping, ping_fits, Rise, IsTalk}
+use Rattle.ty_wire.specs.Limits.{IsWithinLimits, delta_fits, key_passes, value_passes, text_passes, entry_passes, value_len}
+use Rattle.ty_wire.specs.Wire.{IsWire, ValueHasUtf8, DeltaHasUtf8}
+use Rattle.ty_wire.specs.Talk.{snapshot, world_after, deltas_between, status_change, group_between, groups_after, opening, talk, is_no_ping, ping_fits, Rise, IsTalk}
 use Rattle.ty_wire.proofs.Short.{server_hello-fits, ping-fits}
 use Rattle.ty_wire.proofs.Sent.{all-append}
 use Rattle.ty_wire.proofs.Utf8.{is_wire, group-wire}
