@@ -1,0 +1,6 @@
+pub mod Faults
+pub mod Grammar
+pub mod Nets
+pub mod Plurals
+pub mod Reading
+pub mod Views

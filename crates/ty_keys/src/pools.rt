@@ -1,0 +1,100 @@
+// Keys of address pools.
+ghost use Rattle.std.specs.Prelude.{◌≡◌, ◌≤◌, ◌&&◌, ◌+◌, position, length, take, drop, Bool, IsTrue, IfSome, IfOk, IfErr};
+ghost use Rattle.std.specs.List.{list_all, position_or_len};
+ghost use Rattle.std.specs.Option.{option_map};
+ghost use Rattle.ty_keys.specs.Nets.{net_of, is_addr, is_addr_byte as addr_byte, is_dash, longest};
+ghost use Rattle.ty_keys.specs.Reading.{Gives, pool_of, pools};
+ghost use Rattle.ty_keys.specs.Views.{segment, segments_in, net_view};
+
+use crate::cutting::{is_word, last, next};
+use crate::key::{Key, KeyFault};
+use crate::span::Span;
+use std::alloc::Global;
+use ty_base::{Text, TextFault, read_u64};
+
+/// Behind `/calico/v1/ipam`.
+pub fn pool(alloc: Global, rest: Span<'_>) -> Result<Key, KeyFault>
+    ensures { Gives (λ k. k) result (pools (segments_in rest.entry)) }
+{
+    let (version, rest) = next(rest)?;
+    let (word, rest) = next(rest)?;
+    let net = last(rest)?;
+    if !is_word(word, b"pool") {
+        return Err(KeyFault::NoForm);
+    }
+    if is_word(version, b"v4") {
+        pool_at(alloc, false, net)
+    } else if is_word(version, b"v6") {
+        pool_at(alloc, true, net)
+    } else {
+        Err(KeyFault::NoForm)
+    }
+}
+
+// The pool that a segment ADDR-LEN names.
+fn pool_at(alloc: Global, v6: bool, written: Span<'_>) -> Result<Key, KeyFault>
+    ensures { Gives (λ k. k) result (pool_of v6 (net_of v6 written.entry.bytes.now)) }
+{
+    match net(v6, written.bytes) {
+        Some((addr, len)) => Ok(Key::Pool {
+            v6,
+            addr: ascii(alloc, addr)?,
+            len,
+        }),
+        None => Err(KeyFault::NoForm),
+    }
+}
+
+// The address and the length of a segment ADDR-LEN, where it is one.
+fn net(v6: bool, written: &[u8]) -> Option<(&[u8], u8)>
+    ensures value { option_map net_view result ≡ net_of v6 written.now }
+    ensures addr { IfSome result (λ n. IsTrue (is_addr n.0.now)) }
+{
+    let dash = dash_place(written)?;
+    let addr = &written[..dash];
+    let len = read_u64(&written[dash + 1..])?;
+    let most = if v6 { 128 } else { 32 };
+    if !is_address(addr) || len > most {
+        return None;
+    }
+    Some((addr, len as u8))
+}
+
+// Where the first dash stands.
+fn dash_place(written: &[u8]) -> Option<usize>
+    ensures { result ≡ position is_dash written.now }
+{
+    written.iter().position(|b| *b == b'-')
+}
+
+// Whether this may be an address: 1 to 45 of its bytes.
+fn is_address(addr: &[u8]) -> bool
+    ensures { result ≡ is_addr addr.now }
+{
+    !addr.is_empty() && addr.len() <= 45 && all_of_address(addr)
+}
+
+fn all_of_address(addr: &[u8]) -> bool
+    ensures { result ≡ list_all addr_byte addr.now }
+{
+    addr.iter().all(|b| is_address_byte(*b))
+}
+
+fn is_address_byte(b: u8) -> bool
+    ensures { result ≡ addr_byte b }
+{
+    b.is_ascii_hexdigit() || b == b':' || b == b'.'
+}
+
+// A text of ASCII bytes.
+fn ascii(alloc: Global, bytes: &[u8]) -> Result<Text, KeyFault>
+    requires { IsTrue (is_addr bytes.now) }
+    ensures text { IfOk result (λ t. t ≡ bytes.now) }
+    ensures err { IfErr result (λ e. e ≡ KeyFault.NoMemory) }
+{
+    match Text::read(alloc, bytes) {
+        Ok(text) => Ok(text),
+        Err(TextFault::NoMemory) => Err(KeyFault::NoMemory),
+        Err(TextFault::NotUtf8) => unreachable!(),
+    }
+}
