@@ -1,3 +1,9 @@
+pub mod Again
+pub mod Cut
+pub mod Named
 pub mod Networks
+pub mod Prints
 pub mod Segments
+pub mod Sound
+pub mod Texts
 pub mod Units

@@ -81,7 +81,7 @@ dash_at [] ds h = refl
 dash_at (b ∷ a) ds h =
     ap (λ v. cond (not v) (1 + position_or_len is_dash (a ++ 45 ∷ ds)) 0) (no_dash b (and_left (is_addr_byte b) (list_all is_addr_byte a) h))
     ∙ ap (λ n. 1 + n) (dash_at a ds (and_right (is_addr_byte b) (list_all is_addr_byte a) h)) ∙ one_more (length a)
-len_small : (v6 : Bool) (n : ℕ) → nat_le n (longest v6) ≡ true → n < 2 ^ 64
+pub len_small : (v6 : Bool) (n : ℕ) → nat_le n (longest v6) ≡ true → n < 2 ^ 64
 len_small true n h = let l : n ≤ 128 = leb-true n 128 h in omega arith
 len_small false n h = let l : n ≤ 32 = leb-true n 32 h in omega arith
 

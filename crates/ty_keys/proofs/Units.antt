@@ -1,7 +1,7 @@
 -- Parts as they are written, byte by byte.
 use Rattle.std.proofs.Common.{◌≡◌, ℕ, ◌+◌, ◌<◌, ◌≤◌, Bool, true, false, cond, not, ◌&&◌, ◌||◌, ◌==◌, List, [], ◌∷◌, ◌++◌, length, nat_lt, nat_le, Option, Some, None, Result, Ok, Err, refl, sym, ap, subst, ◌∙◌, arith, inl, inr, ◌⊎◌, true≢false, append_assoc}
 use Rattle.std.proofs.lemmas.List.{append-nil}
-use borrow.Author.Tests.{eqb-true}
+use borrow.Author.Tests.{eqb-true, ne_eqb, lt-ltb}
 use Rattle.std.specs.List.{list_all, flat_map}
 use Rattle.ty_keys.specs.declared.key.KeyFault.{KeyFault}
 use Rattle.ty_keys.specs.declared.key.KeyFault.TheVariants.{EmptyPart, BadByte, BadEscape, NoMemory}
@@ -156,3 +156,202 @@ pushed w t t' rest after e ch b p q r s u =
 
 pub all_pushed : (w t rest r : List ℕ) → w ≡ t ++ rest → rest ≡ [] → r ≡ t → w ≡ r
 all_pushed w t rest r p q s = p ∙ ap (λ x. t ++ x) q ∙ append-nil t ∙ sym s
+
+-- ---- what was read is written so
+
+abbrev some : {A : Type 0} → A → Option A
+some x = Some x
+
+pub record Rounds (bs : List ℕ) : Type 0 where
+  pub text : escaped (unescaped bs) ≡ bs
+  pub visible : list_all is_visible (unescaped bs) ≡ true
+
+escaped_plain : (b : ℕ) → (b == 37) ≡ false → (b == 47) ≡ false → escaped_byte b ≡ b ∷ []
+escaped_plain b h g = ap (λ v. cond v (37 ∷ 50 ∷ 53 ∷ []) (cond (b == 47) (37 ∷ 50 ∷ 102 ∷ []) (b ∷ []))) h ∙ ap (λ v. cond v (37 ∷ 50 ∷ 102 ∷ []) (b ∷ [])) g
+
+plain_visible : (b : ℕ) → is_plain b ≡ true → is_visible b ≡ true
+plain_visible b h = and_left (is_visible b) (not (b == 37)) (and_left (is_visible b && not (b == 37)) (not (b == 47)) h)
+
+plain_no_slash : (b : ℕ) → is_plain b ≡ true → (b == 47) ≡ false
+plain_no_slash b h = not_true (b == 47) (and_right (is_visible b && not (b == 37)) (not (b == 47)) h)
+
+rounds_plain : (b : ℕ) (bs : List ℕ) → (b == 37) ≡ false → is_plain b ≡ true → Rounds bs → Rounds (b ∷ bs)
+rounds_plain b bs h p r = record {
+  text = ap escaped (unescaped_plain b bs h) ∙ ap (λ e. e ++ escaped (unescaped bs)) (escaped_plain b h (plain_no_slash b p)) ∙ ap (λ t. b ∷ t) r.text;
+  visible = ap (list_all is_visible) (unescaped_plain b bs h) ∙ ap (λ v. v && list_all is_visible (unescaped bs)) (plain_visible b p) ∙ r.visible;
+}
+
+rounds_25 : (bs : List ℕ) → Rounds bs → Rounds (37 ∷ 50 ∷ 53 ∷ bs)
+rounds_25 bs r = record {
+  text = ap escaped (text_25 bs) ∙ ap (λ t. 37 ∷ 50 ∷ 53 ∷ t) r.text;
+  visible = ap (list_all is_visible) (text_25 bs) ∙ r.visible;
+}
+
+rounds_2f : (bs : List ℕ) → Rounds bs → Rounds (37 ∷ 50 ∷ 102 ∷ bs)
+rounds_2f bs r = record {
+  text = ap escaped (text_2f bs) ∙ ap (λ t. 37 ∷ 50 ∷ 102 ∷ t) r.text;
+  visible = ap (list_all is_visible) (text_2f bs) ∙ r.visible;
+}
+
+some_is_none : (f : KeyFault) → some f ≡ None → ⊥
+some_is_none f h = cc
+
+-- what a first byte without a fault is
+FirstIs : ℕ → ℕ → List ℕ → Type 0
+FirstIs at b bs = ((b ≡ 37) × (is_code bs ≡ true)) ⊎ (((b == 37) ≡ false) × (is_plain b ≡ true) × (byte_fault (at + 1) bs ≡ None))
+
+first_is : (at b : ℕ) (bs : List ℕ) → byte_fault at (b ∷ bs) ≡ None → FirstIs at b bs
+unfolding FirstIs
+first_is at b bs h =
+    elim (b == 37) as (λ v. (b == 37) ≡ v → FirstIs at b bs) [
+      | true ↦ λ e.
+        elim (is_code bs) as (λ w. is_code bs ≡ w → FirstIs at b bs) [
+          | true ↦ λ g. inl (eqb-true b 37 e, g)
+          | false ↦ λ g. absurd (some_is_none (BadEscape at) (sym (fault_no_code at bs g) ∙ sym (ap (λ k. byte_fault at (k ∷ bs)) (eqb-true b 37 e)) ∙ h))
+        ] refl
+      | false ↦ λ e.
+        elim (is_plain b) as (λ w. is_plain b ≡ w → FirstIs at b bs) [
+          | true ↦ λ g. inr (e, g, sym (fault_plain at b bs e g) ∙ h)
+          | false ↦ λ g. absurd (some_is_none (BadByte at) (sym (fault_bad at b bs e g) ∙ h))
+        ] refl
+    ] refl
+
+code_is : (c d : ℕ) → ((c == 50) && ((d == 53) || (d == 102))) ≡ true → (c ≡ 50) × ((d ≡ 53) ⊎ (d ≡ 102))
+code_is c d h =
+    let two = and_right (c == 50) ((d == 53) || (d == 102)) h in
+    (eqb-true c 50 (and_left (c == 50) ((d == 53) || (d == 102)) h),
+      elim (d == 53) as (λ v. (d == 53) ≡ v → (v || (d == 102)) ≡ true → (d ≡ 53) ⊎ (d ≡ 102)) [
+        | true ↦ λ e g. inl (eqb-true d 53 e)
+        | false ↦ λ e g. inr (eqb-true d 102 g)
+      ] refl two)
+
+no_code : {A : Type 0} → false ≡ true → A
+no_code h = absurd (true≢false (sym h))
+
+pub rounds : (at : ℕ) (bs : List ℕ) → byte_fault at bs ≡ None → Rounds bs
+unfolding FirstIs unescaped
+rounds at [] h = record { text = refl; visible = refl }
+rounds at (b ∷ []) h = elim (first_is at b [] h) [
+  | inl e ↦ no_code e.1
+  | inr e ↦ rounds_plain b [] e.0 e.1 (rounds (at + 1) [] e.2)
+]
+rounds at (b ∷ c ∷ []) h = elim (first_is at b (c ∷ []) h) [
+  | inl e ↦ no_code e.1
+  | inr e ↦ rounds_plain b (c ∷ []) e.0 e.1 (rounds (at + 1) (c ∷ []) e.2)
+]
+rounds at (b ∷ c ∷ d ∷ bs) h = elim (first_is at b (c ∷ d ∷ bs) h) [
+  | inl e ↦
+      let k = code_is c d e.1 in
+      elim k.1 [
+        | inl f ↦
+          let same : b ∷ c ∷ d ∷ bs ≡ 37 ∷ 50 ∷ 53 ∷ bs = ap (λ x. x ∷ c ∷ d ∷ bs) e.0 ∙ ap (λ x. 37 ∷ x ∷ d ∷ bs) k.0 ∙ ap (λ x. 37 ∷ 50 ∷ x ∷ bs) f in
+          subst Rounds (sym same) (rounds_25 bs (rounds (at + 1 + 2) bs (sym (fault_escape at 53 bs (inl refl)) ∙ sym (ap (byte_fault at) same) ∙ h)))
+        | inr f ↦
+          let same : b ∷ c ∷ d ∷ bs ≡ 37 ∷ 50 ∷ 102 ∷ bs = ap (λ x. x ∷ c ∷ d ∷ bs) e.0 ∙ ap (λ x. 37 ∷ x ∷ d ∷ bs) k.0 ∙ ap (λ x. 37 ∷ 50 ∷ x ∷ bs) f in
+          subst Rounds (sym same) (rounds_2f bs (rounds (at + 1 + 2) bs (sym (fault_escape at 102 bs (inr refl)) ∙ sym (ap (byte_fault at) same) ∙ h)))
+      ]
+  | inr e ↦ rounds_plain b (c ∷ d ∷ bs) e.0 e.1 (rounds (at + 1) (c ∷ d ∷ bs) e.2)
+]
+
+nonempty : (bs : List ℕ) → (length bs == 0) ≡ false → nat_lt 0 (length (unescaped bs)) ≡ true
+unfolding unescaped
+nonempty [] h = absurd (true≢false h)
+nonempty (b ∷ []) h = refl
+nonempty (b ∷ c ∷ []) h = lt-ltb 0 (length (b ∷ c ∷ [])) (omega arith)
+nonempty (b ∷ c ∷ d ∷ bs) h =
+    elim (b == 37) as (λ v. nat_lt 0 (length (cond v ((cond (d == 53) 37 47) ∷ unescaped bs) (b ∷ unescaped (c ∷ d ∷ bs)))) ≡ true) [
+      | true ↦ lt-ltb 0 (length ((cond (d == 53) 37 47) ∷ unescaped bs)) (omega arith)
+      | false ↦ lt-ltb 0 (length (b ∷ unescaped (c ∷ d ∷ bs))) (omega arith)
+    ]
+
+pub record Part_is (s : Segment) (x : List ℕ) : Type 0 where
+  pub text : escaped x ≡ s.1
+  pub part : is_part x ≡ true
+  pub clean : part_fault s ≡ None
+
+-- what a part that is read is, and what fault one that isn't has
+pub PartGives : Segment → Result (List ℕ) KeyFault → Type 0
+PartGives s (Ok x) = Part_is s x
+PartGives s (Err f) = part_fault s ≡ Some f
+
+part_gives : (at : ℕ) (bs : List ℕ) → PartGives (at, bs) (part_at (at, bs))
+unfolding PartGives part_at
+part_gives at bs =
+    elim (length bs == 0) as (λ v. (length bs == 0) ≡ v → PartGives (at, bs) (unless (cond v (Some (EmptyPart at)) (byte_fault at bs)) (unescaped bs))) [
+      | true ↦ λ e. ap (λ v. cond v (Some (EmptyPart at)) (byte_fault at bs)) e
+      | false ↦ λ e.
+        elim (byte_fault at bs) as (λ o. byte_fault at bs ≡ o → PartGives (at, bs) (unless o (unescaped bs))) [
+          | None ↦ λ g.
+            let r = rounds at bs g in
+            record {
+              text = r.text;
+              part = ap (λ v. v && list_all is_visible (unescaped bs)) (nonempty bs e) ∙ r.visible;
+              clean = ap (λ v. cond v (Some (EmptyPart at)) (byte_fault at bs)) e ∙ g;
+            }
+          | Some f ↦ λ g. ap (λ v. cond v (Some (EmptyPart at)) (byte_fault at bs)) e ∙ g
+        ] refl
+    ] refl
+
+pub part_takes : (s : Segment) (x : List ℕ) → part_at s ≡ Ok x → Part_is s x
+unfolding PartGives
+part_takes s x h = subst (PartGives s) h (part_gives s.0 s.1)
+
+pub part_fails : (s : Segment) (f : KeyFault) → part_at s ≡ Err f → part_fault s ≡ Some f
+unfolding PartGives
+part_fails s f h = subst (PartGives s) h (part_gives s.0 s.1)
+
+-- ---- what is written is read again
+
+byte_cases : (b : ℕ) (P : ℕ → Type 0) → P 37 → P 47 → ((b == 37) ≡ false → (b == 47) ≡ false → P b) → P b
+byte_cases b P p q r =
+    elim (b == 37) as (λ v. (b == 37) ≡ v → P b) [
+      | true ↦ λ h. subst P (sym (eqb-true b 37 h)) p
+      | false ↦ λ h.
+        elim (b == 47) as (λ v. (b == 47) ≡ v → P b) [
+          | true ↦ λ g. subst P (sym (eqb-true b 47 g)) q
+          | false ↦ λ g. r h g
+        ] refl
+    ] refl
+
+pub unescaped_escaped : (p : List ℕ) → unescaped (escaped p) ≡ p
+unfolding unescaped
+unescaped_escaped [] = refl
+unescaped_escaped (b ∷ p) =
+    byte_cases b (λ b. unescaped (escaped (b ∷ p)) ≡ b ∷ p)
+    (text_25 (escaped p) ∙ ap (λ t. 37 ∷ t) (unescaped_escaped p))
+    (text_2f (escaped p) ∙ ap (λ t. 47 ∷ t) (unescaped_escaped p))
+    (λ h g. ap (λ e. unescaped (e ++ escaped p)) (escaped_plain b h g) ∙ unescaped_plain b (escaped p) h ∙ ap (λ t. b ∷ t) (unescaped_escaped p))
+
+fault_escaped : (at : ℕ) (p : List ℕ) → list_all is_visible p ≡ true → byte_fault at (escaped p) ≡ None
+unfolding byte_fault
+fault_escaped at [] h = refl
+fault_escaped at (b ∷ p) h =
+    let seen : is_visible b ≡ true = and_left (is_visible b) (list_all is_visible p) h in
+    let rest = and_right (is_visible b) (list_all is_visible p) h in
+    byte_cases b (λ b. is_visible b ≡ true → byte_fault at (escaped (b ∷ p)) ≡ None)
+    (λ _. fault_escape at 53 (escaped p) (inl refl) ∙ fault_escaped (at + 1 + 2) p rest)
+    (λ _. fault_escape at 102 (escaped p) (inr refl) ∙ fault_escaped (at + 1 + 2) p rest)
+    (λ h g v.
+      let plain : is_plain b ≡ true = ap (λ a. a && not (b == 37) && not (b == 47)) v ∙ ap (λ a. not a && not (b == 47)) h ∙ ap not g in
+      ap (λ e. byte_fault at (e ++ escaped p)) (escaped_plain b h g) ∙ fault_plain at b (escaped p) h plain ∙ fault_escaped (at + 1) p rest)
+    seen
+
+escaped_full : (p : List ℕ) → is_part p ≡ true → (length (escaped p) == 0) ≡ false
+escaped_full [] h = absurd (true≢false (sym h))
+escaped_full (b ∷ p) h =
+    byte_cases b (λ b. (length (escaped (b ∷ p)) == 0) ≡ false)
+    (ne_eqb (length (escaped (37 ∷ p))) 0 (λ e. omega arith))
+    (ne_eqb (length (escaped (47 ∷ p))) 0 (λ e. omega arith))
+    (λ h g. ap (λ e. length (e ++ escaped p) == 0) (escaped_plain b h g) ∙ ne_eqb (length (b ∷ escaped p)) 0 (λ e. omega arith))
+
+pub part_again : (at : ℕ) (p : List ℕ) → is_part p ≡ true → part_at (at, escaped p) ≡ Ok p
+part_again at p h = part_ok at (escaped p) p (escaped_full p h) (fault_escaped at p (and_right (nat_lt 0 (length p)) (list_all is_visible p) h)) (unescaped_escaped p)
+
+-- no slash stands in it
+pub escaped_clear : (p : List ℕ) → list_all (λ b. not (b == 47)) (escaped p) ≡ true
+escaped_clear [] = refl
+escaped_clear (b ∷ p) =
+    byte_cases b (λ b. list_all (λ b. not (b == 47)) (escaped (b ∷ p)) ≡ true)
+    (escaped_clear p)
+    (escaped_clear p)
+    (λ h g. ap (λ e. list_all (λ b. not (b == 47)) (e ++ escaped p)) (escaped_plain b h g) ∙ ap (λ v. not v && list_all (λ b. not (b == 47)) (escaped p)) g ∙ escaped_clear p)
