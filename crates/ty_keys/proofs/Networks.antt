@@ -1,20 +1,20 @@
 -- ADDR-LEN, read and written.
 use Rattle.std.proofs.Common.{◌≡◌, ℕ, ◌+◌, ◌^◌, ◌<◌, ◌≤◌, Bool, true, false, cond, not, ◌&&◌, ◌||◌, ◌==◌, List, [], ◌∷◌, ◌++◌, length, get_or, take, drop, decimal, nat_lt, nat_le, Option, Some, None, refl, sym, ap, subst, ◌∙◌, arith, inl, inr, true≢false, IsTrue, add-one, suc}
 use borrow.Author.Tests.{eqb-true, lt-ltb, leb-true, ltb-false}
-use Rattle.std.specs.List.{All, list_all, before_first, after_first, position_or_len}
+use Rattle.std.specs.List.{All, list_all, before_first, after_first, position, position_or_len}
 use Rattle.std.specs.Option.{option_and_then}
 use Rattle.std.specs.Char.{is_ascii_hexdigit}
 use Rattle.std.specs.Str.{IsAscii}
 use Rattle.std.proofs.lemmas.Bool.{cases_lt}
 use Rattle.std.proofs.lemmas.Option.{option_and_then_some, cond_some}
-use Rattle.std.proofs.lemmas.List.{take_at, drop_all, drop_more, length-append, append-nil}
+use Rattle.std.proofs.lemmas.List.{take_at, take_all, drop_all, drop_more, length-append, append-nil}
 use Rattle.std.proofs.lemmas.List.Sums.{passes_at_first, split_at_first}
 use Rattle.std.proofs.lemmas.List.Elements.{All-cons}
 use Rattle.std.proofs.lemmas.Str.Ascii.{IsAscii-from_all}
 use Rattle.ty_base.specs.Numbers.{read_number}
 use Rattle.ty_base.proofs.Digits.{read_decimal, decimal_of_read}
 use Rattle.ty_keys.specs.Nets.{is_addr, is_addr_byte, is_net, is_dash, longest, net_text, net_of}
-use Rattle.ty_keys.proofs.Segments.{position_or_len-le}
+use Rattle.ty_keys.proofs.Segments.{position_or_len-le, past_end}
 use Rattle.ty_keys.proofs.Units.{and_left, and_right}
 
 -- ---- bytes of an address
@@ -51,18 +51,18 @@ net_takes v6 s a n h =
     let addr = before_first is_dash s in
     let after = after_first is_dash s in
     option_and_then_some (λ m. cond (is_net v6 addr m) (Some (addr, m)) None) (read_number after) (a, n) h (λ m r e.
-      let q = cond_some (is_net v6 addr m) (addr, m) (a, n) e in
-      let pos = position_or_len is_dash s in
-      let text : s ≡ net_text addr m =
-        elim (cases_lt pos (length s)) [
-          | inl lt ↦
-              split_at_first is_dash s 0 lt
-              ∙ ap (λ b. addr ++ b ∷ after) (eqb-true (get_or s pos 0) 45 (passes_at_first is_dash s 0 lt))
-              ∙ ap (λ ds. addr ++ 45 ∷ ds) (decimal_of_read after m r)
-          | inr le ↦ absurd (read_nothing m (sym (ap read_number (drop_all (pos + 1) s (omega arith))) ∙ r))
-        ] in
-      let P : List ℕ × ℕ → Type 0 = λ p. (s ≡ net_text p.0 p.1) × (is_net v6 p.0 p.1 ≡ true) in
-      subst P q.1 (text, q.0))
+    let q = cond_some (is_net v6 addr m) (addr, m) (a, n) e in
+    let pos = position_or_len is_dash s in
+    let text : s ≡ net_text addr m =
+    elim (cases_lt pos (length s)) [
+      | inl lt ↦
+          split_at_first is_dash s 0 lt
+          ∙ ap (λ b. addr ++ b ∷ after) (eqb-true (get_or s pos 0) 45 (passes_at_first is_dash s 0 lt))
+          ∙ ap (λ ds. addr ++ 45 ∷ ds) (decimal_of_read after m r)
+      | inr le ↦ absurd (read_nothing m (sym (ap read_number (drop_all (pos + 1) s (omega arith))) ∙ r))
+    ] in
+    let P : List ℕ × ℕ → Type 0 = λ p. (s ≡ net_text p.0 p.1) × (is_net v6 p.0 p.1 ≡ true) in
+    subst P q.1 (text, q.0))
 
 -- ---- and read again
 
@@ -81,6 +81,7 @@ dash_at [] ds h = refl
 dash_at (b ∷ a) ds h =
     ap (λ v. cond (not v) (1 + position_or_len is_dash (a ++ 45 ∷ ds)) 0) (no_dash b (and_left (is_addr_byte b) (list_all is_addr_byte a) h))
     ∙ ap (λ n. 1 + n) (dash_at a ds (and_right (is_addr_byte b) (list_all is_addr_byte a) h)) ∙ one_more (length a)
+
 pub len_small : (v6 : Bool) (n : ℕ) → nat_le n (longest v6) ≡ true → n < 2 ^ 64
 len_small true n h = let l : n ≤ 128 = leb-true n 128 h in omega arith
 len_small false n h = let l : n ≤ 32 = leb-true n 32 h in omega arith
@@ -98,3 +99,21 @@ net_again v6 a n h =
     ∙ ap (λ t. option_and_then (λ m. cond (is_net v6 a m) (Some (a, m)) None) (read_number t)) back
     ∙ ap (option_and_then (λ m. cond (is_net v6 a m) (Some (a, m)) None)) (read_decimal n small)
     ∙ ap (λ v. cond v (Some (a, n)) None) h
+
+-- ---- as the code cuts it
+
+pub net_is : (v6 : Bool) (s addr after : List ℕ) (r : Option (List ℕ × ℕ)) → r ≡ option_and_then (λ len. cond (is_net v6 addr len) (Some (addr, len)) None) (read_number after)
+    → addr ≡ before_first is_dash s → after ≡ after_first is_dash s → r ≡ net_of v6 s
+unfolding net_of
+net_is v6 s addr after r h p q =
+    h ∙ ap (λ a. option_and_then (λ len. cond (is_net v6 a len) (Some (a, len)) None) (read_number after)) p
+    ∙ ap (λ t. option_and_then (λ len. cond (is_net v6 (before_first is_dash s) len) (Some (before_first is_dash s, len)) None) (read_number t)) q
+
+pub dash_some : (s : List ℕ) (d : ℕ) → Some d ≡ position is_dash s → d ≡ position_or_len is_dash s
+dash_some s d h = sym (cond_some (nat_lt (position_or_len is_dash s) (length s)) (position_or_len is_dash s) d (sym h)).1
+
+pub dash_none : (s : List ℕ) → None ≡ position is_dash s → (s ≡ before_first is_dash s) × ([] ≡ after_first is_dash s)
+dash_none s h =
+    let n = position_or_len is_dash s in
+    let same : length s ≡ n = past_end n (length s) (position_or_len-le is_dash s) h in
+    (sym (take_all n s (omega arith)), sym (drop_all (n + 1) s (omega arith)))

@@ -134,11 +134,11 @@ workload_sound a b c h d (o ∷ l ∷ (i, e) ∷ []) =
 workload_sound a b c h d (o ∷ l ∷ (i, e) ∷ p ∷ []) =
     by_word (codes "endpoint") e (λ w. Sound (in_host a b c h d (codes "workload") (o ∷ l ∷ (i, w) ∷ p ∷ [])) (workload h (o ∷ l ∷ (i, w) ∷ p ∷ [])))
     (let ss = in_host a b c h d (codes "workload") (o ∷ l ∷ (i, codes "endpoint") ∷ p ∷ []) in
-      part_then ss h _ (or_else (part_fault o) (or_else (part_fault l) (or_else (part_fault p) None))) refl (λ x ex cx.
-      part_then ss o _ (or_else (part_fault l) (or_else (part_fault p) None)) cx (λ y ey cy.
-      part_then ss l _ (or_else (part_fault p) None) cy (λ z ez cz.
-      part_then ss p _ None cz (λ u eu cu.
-      found ss (Workload x y z u) cu (refl, (refl, (refl, (ex, (refl, (ey, (ez, (refl, (eu, tt))))))))))))))
+    part_then ss h _ (or_else (part_fault o) (or_else (part_fault l) (or_else (part_fault p) None))) refl (λ x ex cx.
+    part_then ss o _ (or_else (part_fault l) (or_else (part_fault p) None)) cx (λ y ey cy.
+    part_then ss l _ (or_else (part_fault p) None) cy (λ z ez cz.
+    part_then ss p _ None cz (λ u eu cu.
+    found ss (Workload x y z u) cu (refl, (refl, (refl, (ex, (refl, (ey, (ez, (refl, (eu, tt))))))))))))))
     (λ n. subst (Sound (in_host a b c h d (codes "workload") (o ∷ l ∷ (i, e) ∷ p ∷ []))) (sym (ap (λ v. cond v (four_parts Workload h o l p) no_form) n)) (workload_no a b c h d o l p i e n))
 workload_sound a b c h d (o ∷ l ∷ (i, e) ∷ p ∷ q ∷ ss) =
     by_word (codes "endpoint") e (λ w. Sound (in_host a b c h d (codes "workload") (o ∷ l ∷ (i, w) ∷ p ∷ q ∷ ss)) no_form) refl (λ n. rw n refl)
@@ -333,10 +333,10 @@ both : (v g : List ℕ) (P : List ℕ → List ℕ → Type 0) → P (codes "v3"
 both v g P p q =
     elim (bytes_eq v (codes "v3")) as (λ t. bytes_eq v (codes "v3") ≡ t → P v g) [
       | true ↦ λ h.
-        elim (bytes_eq g (codes "projectcalico.org")) as (λ u. bytes_eq g (codes "projectcalico.org") ≡ u → P v g) [
-          | true ↦ λ k. subst (λ (x : List ℕ). P x g) (sym (same_text v (codes "v3") h)) (subst (P (codes "v3")) (sym (same_text g (codes "projectcalico.org") k)) p)
-          | false ↦ λ k. q (ap (λ t. t && bytes_eq g (codes "projectcalico.org")) h ∙ k)
-        ] refl
+          elim (bytes_eq g (codes "projectcalico.org")) as (λ u. bytes_eq g (codes "projectcalico.org") ≡ u → P v g) [
+            | true ↦ λ k. subst (λ (x : List ℕ). P x g) (sym (same_text v (codes "v3") h)) (subst (P (codes "v3")) (sym (same_text g (codes "projectcalico.org") k)) p)
+            | false ↦ λ k. q (ap (λ t. t && bytes_eq g (codes "projectcalico.org")) h ∙ k)
+          ] refl
       | false ↦ λ h. q (ap (λ t. t && bytes_eq g (codes "projectcalico.org")) h)
     ] refl
 
@@ -351,7 +351,7 @@ resources_sound a b ((c, v) ∷ (d, g) ∷ []) =
 resources_sound a b ((c, v) ∷ (d, g) ∷ (e, p) ∷ ss) =
     let P : List ℕ → List ℕ → Type 0 = λ v g. Sound (in_resources a b c v d g ((e, p) ∷ ss)) (resources ((c, v) ∷ (d, g) ∷ (e, p) ∷ ss)) in
     let none : (bytes_eq v (codes "v3") && bytes_eq g (codes "projectcalico.org")) ≡ false → P v g = λ h.
-      subst (Sound (in_resources a b c v d g ((e, p) ∷ ss))) (sym (ap (λ t. cond t (of_kind (kind_of p) ss) no_form) h)) (resources_none a b c v d g ((e, p) ∷ ss) h) in
+    subst (Sound (in_resources a b c v d g ((e, p) ∷ ss))) (sym (ap (λ t. cond t (of_kind (kind_of p) ss) no_form) h)) (resources_none a b c v d g ((e, p) ∷ ss) h) in
     both v g P (kind_sound a b c d e p ss) none
 
 -- ---- all of it

@@ -118,8 +118,8 @@ segments_take text k e h =
     let parts : List (List ℕ) = after_slash (slice_split is_slash text) in
     let r : Reads (segments 0 text) k = subst (Sound (segments 0 text)) h (all_sound (segments 0 text)) in
     let is : text ≡ key_text k =
-      text_is text parts refl (λ z. nothing_read k (sym (ap (λ (ps : List (List ℕ)). read_segments (placed 0 ps)) z) ∙ h))
-      ∙ ap (flat_map slashed) (sym (r.text ∙ placed_texts 0 parts)) ∙ sym (flat_printed (pieces k)) in
+    text_is text parts refl (λ z. nothing_read k (sym (ap (λ (ps : List (List ℕ)). read_segments (placed 0 ps)) z) ∙ h))
+    ∙ ap (flat_map slashed) (sym (r.text ∙ placed_texts 0 parts)) ∙ sym (flat_printed (pieces k)) in
     record {
       key = record { pieces = r.pieces; short = let P : List ℕ → Type 0 = λ t. length t ≤ 1024 in subst P is (ltb-false 1024 (length text) e) };
       is_text = is;

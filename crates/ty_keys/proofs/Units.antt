@@ -84,14 +84,14 @@ escape_cases : (c d : ℕ) {A : Type 0} (yes25 yes2f neither : A) (Q : A → Typ
 escape_cases c d yes25 yes2f neither Q p q r =
     elim (c == 50) as (λ u. (c == 50) ≡ u → Q (cond (u && (d == 53)) yes25 (cond (u && (d == 102)) yes2f neither))) [
       | true ↦ λ hc.
-        elim (d == 53) as (λ v. (d == 53) ≡ v → Q (cond v yes25 (cond (d == 102) yes2f neither))) [
-          | true ↦ λ hd. p (eqb-true c 50 hc) (eqb-true d 53 hd)
-          | false ↦ λ hd.
-            elim (d == 102) as (λ w. (d == 102) ≡ w → Q (cond w yes2f neither)) [
-              | true ↦ λ he. q (eqb-true c 50 hc) (eqb-true d 102 he)
-              | false ↦ λ he. r (ap (λ u. u && ((d == 53) || (d == 102))) hc ∙ ap (λ v. v || (d == 102)) hd ∙ he)
-            ] refl
-        ] refl
+          elim (d == 53) as (λ v. (d == 53) ≡ v → Q (cond v yes25 (cond (d == 102) yes2f neither))) [
+            | true ↦ λ hd. p (eqb-true c 50 hc) (eqb-true d 53 hd)
+            | false ↦ λ hd.
+                elim (d == 102) as (λ w. (d == 102) ≡ w → Q (cond w yes2f neither)) [
+                  | true ↦ λ he. q (eqb-true c 50 hc) (eqb-true d 102 he)
+                  | false ↦ λ he. r (ap (λ u. u && ((d == 53) || (d == 102))) hc ∙ ap (λ v. v || (d == 102)) hd ∙ he)
+                ] refl
+          ] refl
       | false ↦ λ hc. r (ap (λ u. u && ((d == 53) || (d == 102))) hc)
     ] refl
 
@@ -113,10 +113,10 @@ unit_gives at b bs =
     elim (b == 37) as (λ v. (b == 37) ≡ v → Unit_gives at (b ∷ bs) (cond v (escape_at at (at + 1, bs)) (cond (is_plain b) (Ok (b, (at + 1, bs))) (Err (BadByte at))))) [
       | true ↦ λ h. subst (λ (k : ℕ). Unit_gives at (k ∷ bs) (escape_at at (at + 1, bs))) (sym (eqb-true b 37 h)) (escape_gives at bs)
       | false ↦ λ h.
-        elim (is_plain b) as (λ w. is_plain b ≡ w → Unit_gives at (b ∷ bs) (cond w (Ok (b, (at + 1, bs))) (Err (BadByte at)))) [
-          | true ↦ λ p. record { fault = fault_plain at b bs h p; text = unescaped_plain b bs h }
-          | false ↦ λ p. fault_bad at b bs h p
-        ] refl
+          elim (is_plain b) as (λ w. is_plain b ≡ w → Unit_gives at (b ∷ bs) (cond w (Ok (b, (at + 1, bs))) (Err (BadByte at)))) [
+            | true ↦ λ p. record { fault = fault_plain at b bs h p; text = unescaped_plain b bs h }
+            | false ↦ λ p. fault_bad at b bs h p
+          ] refl
     ] refl
 
 pub unit_ok : (at : ℕ) (bs : List ℕ) (x : ℕ) (s : Segment) → unit_at (at, bs) ≡ Ok (x, s) → Steps at bs x s
@@ -205,25 +205,26 @@ unfolding FirstIs
 first_is at b bs h =
     elim (b == 37) as (λ v. (b == 37) ≡ v → FirstIs at b bs) [
       | true ↦ λ e.
-        elim (is_code bs) as (λ w. is_code bs ≡ w → FirstIs at b bs) [
-          | true ↦ λ g. inl (eqb-true b 37 e, g)
-          | false ↦ λ g. absurd (some_is_none (BadEscape at) (sym (fault_no_code at bs g) ∙ sym (ap (λ k. byte_fault at (k ∷ bs)) (eqb-true b 37 e)) ∙ h))
-        ] refl
+          elim (is_code bs) as (λ w. is_code bs ≡ w → FirstIs at b bs) [
+            | true ↦ λ g. inl (eqb-true b 37 e, g)
+            | false ↦ λ g. absurd (some_is_none (BadEscape at) (sym (fault_no_code at bs g) ∙ sym (ap (λ k. byte_fault at (k ∷ bs)) (eqb-true b 37 e)) ∙ h))
+          ] refl
       | false ↦ λ e.
-        elim (is_plain b) as (λ w. is_plain b ≡ w → FirstIs at b bs) [
-          | true ↦ λ g. inr (e, g, sym (fault_plain at b bs e g) ∙ h)
-          | false ↦ λ g. absurd (some_is_none (BadByte at) (sym (fault_bad at b bs e g) ∙ h))
-        ] refl
+          elim (is_plain b) as (λ w. is_plain b ≡ w → FirstIs at b bs) [
+            | true ↦ λ g. inr (e, g, sym (fault_plain at b bs e g) ∙ h)
+            | false ↦ λ g. absurd (some_is_none (BadByte at) (sym (fault_bad at b bs e g) ∙ h))
+          ] refl
     ] refl
 
 code_is : (c d : ℕ) → ((c == 50) && ((d == 53) || (d == 102))) ≡ true → (c ≡ 50) × ((d ≡ 53) ⊎ (d ≡ 102))
 code_is c d h =
-    let two = and_right (c == 50) ((d == 53) || (d == 102)) h in
-    (eqb-true c 50 (and_left (c == 50) ((d == 53) || (d == 102)) h),
+    let two = and_right (c == 50) ((d == 53) || (d == 102)) h in (
+      eqb-true c 50 (and_left (c == 50) ((d == 53) || (d == 102)) h),
       elim (d == 53) as (λ v. (d == 53) ≡ v → (v || (d == 102)) ≡ true → (d ≡ 53) ⊎ (d ≡ 102)) [
         | true ↦ λ e g. inl (eqb-true d 53 e)
         | false ↦ λ e g. inr (eqb-true d 102 g)
-      ] refl two)
+      ] refl two,
+    )
 
 no_code : {A : Type 0} → false ≡ true → A
 no_code h = absurd (true≢false (sym h))
@@ -244,11 +245,11 @@ rounds at (b ∷ c ∷ d ∷ bs) h = elim (first_is at b (c ∷ d ∷ bs) h) [
       let k = code_is c d e.1 in
       elim k.1 [
         | inl f ↦
-          let same : b ∷ c ∷ d ∷ bs ≡ 37 ∷ 50 ∷ 53 ∷ bs = ap (λ x. x ∷ c ∷ d ∷ bs) e.0 ∙ ap (λ x. 37 ∷ x ∷ d ∷ bs) k.0 ∙ ap (λ x. 37 ∷ 50 ∷ x ∷ bs) f in
-          subst Rounds (sym same) (rounds_25 bs (rounds (at + 1 + 2) bs (sym (fault_escape at 53 bs (inl refl)) ∙ sym (ap (byte_fault at) same) ∙ h)))
+            let same : b ∷ c ∷ d ∷ bs ≡ 37 ∷ 50 ∷ 53 ∷ bs = ap (λ x. x ∷ c ∷ d ∷ bs) e.0 ∙ ap (λ x. 37 ∷ x ∷ d ∷ bs) k.0 ∙ ap (λ x. 37 ∷ 50 ∷ x ∷ bs) f in
+            subst Rounds (sym same) (rounds_25 bs (rounds (at + 1 + 2) bs (sym (fault_escape at 53 bs (inl refl)) ∙ sym (ap (byte_fault at) same) ∙ h)))
         | inr f ↦
-          let same : b ∷ c ∷ d ∷ bs ≡ 37 ∷ 50 ∷ 102 ∷ bs = ap (λ x. x ∷ c ∷ d ∷ bs) e.0 ∙ ap (λ x. 37 ∷ x ∷ d ∷ bs) k.0 ∙ ap (λ x. 37 ∷ 50 ∷ x ∷ bs) f in
-          subst Rounds (sym same) (rounds_2f bs (rounds (at + 1 + 2) bs (sym (fault_escape at 102 bs (inr refl)) ∙ sym (ap (byte_fault at) same) ∙ h)))
+            let same : b ∷ c ∷ d ∷ bs ≡ 37 ∷ 50 ∷ 102 ∷ bs = ap (λ x. x ∷ c ∷ d ∷ bs) e.0 ∙ ap (λ x. 37 ∷ x ∷ d ∷ bs) k.0 ∙ ap (λ x. 37 ∷ 50 ∷ x ∷ bs) f in
+            subst Rounds (sym same) (rounds_2f bs (rounds (at + 1 + 2) bs (sym (fault_escape at 102 bs (inr refl)) ∙ sym (ap (byte_fault at) same) ∙ h)))
       ]
   | inr e ↦ rounds_plain b (c ∷ d ∷ bs) e.0 e.1 (rounds (at + 1) (c ∷ d ∷ bs) e.2)
 ]
@@ -280,16 +281,16 @@ part_gives at bs =
     elim (length bs == 0) as (λ v. (length bs == 0) ≡ v → PartGives (at, bs) (unless (cond v (Some (EmptyPart at)) (byte_fault at bs)) (unescaped bs))) [
       | true ↦ λ e. ap (λ v. cond v (Some (EmptyPart at)) (byte_fault at bs)) e
       | false ↦ λ e.
-        elim (byte_fault at bs) as (λ o. byte_fault at bs ≡ o → PartGives (at, bs) (unless o (unescaped bs))) [
-          | None ↦ λ g.
-            let r = rounds at bs g in
-            record {
-              text = r.text;
-              part = ap (λ v. v && list_all is_visible (unescaped bs)) (nonempty bs e) ∙ r.visible;
-              clean = ap (λ v. cond v (Some (EmptyPart at)) (byte_fault at bs)) e ∙ g;
-            }
-          | Some f ↦ λ g. ap (λ v. cond v (Some (EmptyPart at)) (byte_fault at bs)) e ∙ g
-        ] refl
+          elim (byte_fault at bs) as (λ o. byte_fault at bs ≡ o → PartGives (at, bs) (unless o (unescaped bs))) [
+            | None ↦ λ g.
+                let r = rounds at bs g in
+                record {
+                  text = r.text;
+                  part = ap (λ v. v && list_all is_visible (unescaped bs)) (nonempty bs e) ∙ r.visible;
+                  clean = ap (λ v. cond v (Some (EmptyPart at)) (byte_fault at bs)) e ∙ g;
+                }
+            | Some f ↦ λ g. ap (λ v. cond v (Some (EmptyPart at)) (byte_fault at bs)) e ∙ g
+          ] refl
     ] refl
 
 pub part_takes : (s : Segment) (x : List ℕ) → part_at s ≡ Ok x → Part_is s x
@@ -307,10 +308,10 @@ byte_cases b P p q r =
     elim (b == 37) as (λ v. (b == 37) ≡ v → P b) [
       | true ↦ λ h. subst P (sym (eqb-true b 37 h)) p
       | false ↦ λ h.
-        elim (b == 47) as (λ v. (b == 47) ≡ v → P b) [
-          | true ↦ λ g. subst P (sym (eqb-true b 47 g)) q
-          | false ↦ λ g. r h g
-        ] refl
+          elim (b == 47) as (λ v. (b == 47) ≡ v → P b) [
+            | true ↦ λ g. subst P (sym (eqb-true b 47 g)) q
+            | false ↦ λ g. r h g
+          ] refl
     ] refl
 
 pub unescaped_escaped : (p : List ℕ) → unescaped (escaped p) ≡ p
@@ -332,8 +333,8 @@ fault_escaped at (b ∷ p) h =
     (λ _. fault_escape at 53 (escaped p) (inl refl) ∙ fault_escaped (at + 1 + 2) p rest)
     (λ _. fault_escape at 102 (escaped p) (inr refl) ∙ fault_escaped (at + 1 + 2) p rest)
     (λ h g v.
-      let plain : is_plain b ≡ true = ap (λ a. a && not (b == 37) && not (b == 47)) v ∙ ap (λ a. not a && not (b == 47)) h ∙ ap not g in
-      ap (λ e. byte_fault at (e ++ escaped p)) (escaped_plain b h g) ∙ fault_plain at b (escaped p) h plain ∙ fault_escaped (at + 1) p rest)
+    let plain : is_plain b ≡ true = ap (λ a. a && not (b == 37) && not (b == 47)) v ∙ ap (λ a. not a && not (b == 47)) h ∙ ap not g in
+    ap (λ e. byte_fault at (e ++ escaped p)) (escaped_plain b h g) ∙ fault_plain at b (escaped p) h plain ∙ fault_escaped (at + 1) p rest)
     seen
 
 escaped_full : (p : List ℕ) → is_part p ≡ true → (length (escaped p) == 0) ≡ false

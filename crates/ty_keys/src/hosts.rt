@@ -19,12 +19,7 @@ pub fn of_any_host(alloc: Global, rest: Span<'_>) -> Result<Key, KeyFault>
 }
 
 // Behind `/calico/v1/host/HOST`.
-fn of_host(
-    alloc: Global,
-    host: Span<'_>,
-    word: Span<'_>,
-    rest: Span<'_>,
-) -> Result<Key, KeyFault>
+fn of_host(alloc: Global, host: Span<'_>, word: Span<'_>, rest: Span<'_>) -> Result<Key, KeyFault>
     ensures { Gives (λ k. k) result (host_of (segment host.entry) (segment word.entry) (segments_in rest.entry)) }
 {
     if is_word(word, b"config") {

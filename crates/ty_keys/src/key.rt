@@ -7,13 +7,23 @@ pub enum Key {
     /// `/calico/v1/Ready`
     Ready,
     /// `/calico/v1/config/NAME`
-    Global { name: Text },
+    Global {
+        name: Text,
+    },
     /// `/calico/v1/host/HOST/config/NAME`
-    HostConfig { host: Text, name: Text },
+    HostConfig {
+        host: Text,
+        name: Text,
+    },
     /// `/calico/v1/host/HOST/bird_ip`
-    HostIp { host: Text },
+    HostIp {
+        host: Text,
+    },
     /// `/calico/v1/host/HOST/endpoint/ENDPOINT`
-    HostEndpoint { host: Text, endpoint: Text },
+    HostEndpoint {
+        host: Text,
+        endpoint: Text,
+    },
     /// `/calico/v1/host/HOST/workload/ORCHESTRATOR/WORKLOAD/endpoint/ENDPOINT`
     Workload {
         host: Text,
@@ -22,16 +32,29 @@ pub enum Key {
         endpoint: Text,
     },
     /// `/calico/v1/policy/tier/TIER/policy/POLICY`
-    Policy { tier: Text, policy: Text },
+    Policy {
+        tier: Text,
+        policy: Text,
+    },
     /// `/calico/v1/policy/profile/PROFILE/rules`
-    ProfileRules { profile: Text },
+    ProfileRules {
+        profile: Text,
+    },
     /// `/calico/v1/policy/profile/PROFILE/labels`
-    ProfileLabels { profile: Text },
+    ProfileLabels {
+        profile: Text,
+    },
     /// `/calico/v1/netset/NAME`
-    NetSet { name: Text },
+    NetSet {
+        name: Text,
+    },
     /// `/calico/v1/ipam/v4/pool/ADDR-LEN` and `/calico/v1/ipam/v6/pool/ADDR-LEN`. Whether `addr` is an
     /// address is not asked here.
-    Pool { v6: bool, addr: Text, len: u8 },
+    Pool {
+        v6: bool,
+        addr: Text,
+        len: u8,
+    },
     /// `/calico/resources/v3/projectcalico.org/PLURAL/NAME`, with `NAMESPACE/` before the name exactly where
     /// the plural's kind is namespaced.
     Resource {

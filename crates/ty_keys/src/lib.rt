@@ -21,3 +21,6 @@ mod whole;
 pub use key::{Key, KeyFault};
 pub use laws::keys_read_back;
 pub use plural::{ResourceKind, kind_of};
+
+#[cfg(test)]
+mod tests;

@@ -1,8 +1,9 @@
 // Keys of address pools.
-ghost use Rattle.std.specs.Prelude.{◌≡◌, ◌≤◌, ◌&&◌, ◌+◌, position, length, take, drop, Bool, IsTrue, IfSome, IfOk, IfErr};
-ghost use Rattle.std.specs.List.{list_all, position_or_len};
+ghost use Rattle.std.specs.Prelude.{◌≡◌, ◌<◌, position, option_and_then, if◌then◌else◌, IsTrue, IfSome, IfOk, IfErr};
+ghost use Rattle.std.specs.List.{list_all, before_first, after_first};
+ghost use Rattle.std.specs.Bool.{OnTrue};
 ghost use Rattle.std.specs.Option.{option_map};
-ghost use Rattle.ty_keys.specs.Nets.{net_of, is_addr, is_addr_byte as addr_byte, is_dash, longest};
+ghost use Rattle.ty_keys.specs.Nets.{net_of, is_net, is_addr, is_addr_byte as addr_byte, is_dash, longest};
 ghost use Rattle.ty_keys.specs.Reading.{Gives, pool_of, pools};
 ghost use Rattle.ty_keys.specs.Views.{segment, segments_in, net_view};
 
@@ -50,14 +51,53 @@ fn net(v6: bool, written: &[u8]) -> Option<(&[u8], u8)>
     ensures value { option_map net_view result ≡ net_of v6 written.now }
     ensures addr { IfSome result (λ n. IsTrue (is_addr n.0.now)) }
 {
-    let dash = dash_place(written)?;
-    let addr = &written[..dash];
-    let len = read_u64(&written[dash + 1..])?;
-    let most = if v6 { 128 } else { 32 };
-    if !is_address(addr) || len > most {
-        return None;
+    let (addr, len) = cut_at_dash(written);
+    within(v6, addr, read_u64(len))
+}
+
+// The address and the length, where both may be such.
+fn within(v6: bool, addr: &[u8], len: Option<u64>) -> Option<(&[u8], u8)>
+    ensures value { option_map net_view result ≡ option_and_then (λ n. if is_net v6 addr.now n then Some (addr.now, n) else None) len }
+    ensures addr { IfSome result (λ n. IsTrue (is_addr n.0.now)) }
+{
+    match len {
+        None => None,
+        Some(len) => {
+            if is_network(v6, addr, len) {
+                Some((addr, len as u8))
+            } else {
+                None
+            }
+        }
     }
-    Some((addr, len as u8))
+}
+
+// Whether an address and a length may stand together.
+fn is_network(v6: bool, addr: &[u8], len: u64) -> bool
+    ensures value { result ≡ is_net v6 addr.now len }
+    ensures addr { OnTrue result (IsTrue (is_addr addr.now)) }
+    ensures len { OnTrue result (len < 256) }
+{
+    is_address(addr) && len <= most(v6)
+}
+
+// The greatest length.
+fn most(v6: bool) -> u64
+    ensures value { result ≡ longest v6 }
+    ensures small { result < 256 }
+{
+    if v6 { 128 } else { 32 }
+}
+
+// What stands before the first dash, and what behind it; all and nothing where there is none.
+fn cut_at_dash(written: &[u8]) -> (&[u8], &[u8])
+    ensures front { result.0.now ≡ before_first is_dash written.now }
+    ensures back { result.1.now ≡ after_first is_dash written.now }
+{
+    match dash_place(written) {
+        Some(dash) => (&written[..dash], &written[dash + 1..]),
+        None => (written, &[]),
+    }
 }
 
 // Where the first dash stands.

@@ -51,18 +51,12 @@ pub fn text_of(alloc: Global, key: &Key) -> Result<Vec<u8>, NoMemory>
             orchestrator,
             workload,
             endpoint,
-        } => joined(
+        } => workload_text(
             alloc,
-            &[
-                Bit::Path("/calico/v1/host/"),
-                Bit::Part(host.bytes()),
-                Bit::Path("/workload/"),
-                Bit::Part(orchestrator.bytes()),
-                Bit::Path("/"),
-                Bit::Part(workload.bytes()),
-                Bit::Path("/endpoint/"),
-                Bit::Part(endpoint.bytes()),
-            ],
+            host.bytes(),
+            orchestrator.bytes(),
+            workload.bytes(),
+            endpoint.bytes(),
         ),
         Key::Policy { tier, policy } => joined(
             alloc,
@@ -121,6 +115,31 @@ pub fn text_of(alloc: Global, key: &Key) -> Result<Vec<u8>, NoMemory>
             ),
         },
     }
+}
+
+// The text of a workload endpoint's key.
+fn workload_text<'a>(
+    alloc: Global,
+    host: &'a [u8],
+    orchestrator: &'a [u8],
+    workload: &'a [u8],
+    endpoint: &'a [u8],
+) -> Result<Vec<u8>, NoMemory>
+    ensures { IfOk result (λ text. text.items ≡ key_text (Key.Workload host.now orchestrator.now workload.now endpoint.now)) }
+{
+    joined(
+        alloc,
+        &[
+            Bit::Path("/calico/v1/host/"),
+            Bit::Part(host),
+            Bit::Path("/workload/"),
+            Bit::Part(orchestrator),
+            Bit::Path("/"),
+            Bit::Part(workload),
+            Bit::Path("/endpoint/"),
+            Bit::Part(endpoint),
+        ],
+    )
 }
 
 // The text of a pool's key.

@@ -10,7 +10,7 @@ pub returns-in_err-byte : goal.returns-in_err-byte
 returns-in_err-byte c =
     let p = err_from_is_err_and c.from_residual-in_err-byte.result c.from_residual-in_err-byte.ensures.1 in
     rw (p.1, p.2) (λ n. part_err c.args.written.at c.args.written.bytes.now _ (sym c.if-is_empty.ensures)
-      (c.loop-rest.invariant.fault ∙ unit_err c.loop-rest.rest.at c.loop-rest.rest.bytes.now _ (sym c.loop-rest-test.ensures) (c.in_err-byte.ensures.unit n)))
+    (c.loop-rest.invariant.fault ∙ unit_err c.loop-rest.rest.at c.loop-rest.rest.bytes.now _ (sym c.loop-rest-test.ensures) (c.in_err-byte.ensures.unit n)))
 
 pub loop-rest-preserved : goal.loop-rest-preserved
 loop-rest-preserved c =
@@ -18,8 +18,8 @@ loop-rest-preserved c =
     record {
       fault = c.loop-rest.invariant.fault ∙ s.fault;
       text =
-        pushed _ _ _ _ _ _ _ _ c.loop-rest.invariant.text s.text c.in_ok-push.ensures.bytes
-        (c.in_ok-push.ensures.ascii (omega (arith, c.in_ok-byte.ensures.ascii, c.from.ensures))) c.from.ensures;
+          pushed _ _ _ _ _ _ _ _ c.loop-rest.invariant.text s.text c.in_ok-push.ensures.bytes
+          (c.in_ok-push.ensures.ascii (omega (arith, c.in_ok-byte.ensures.ascii, c.from.ensures))) c.from.ensures;
     }
 
 pub returns : goal.returns
