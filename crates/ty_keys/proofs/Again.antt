@@ -1,13 +1,12 @@
 -- Every key's segments are read as that key.
-use Rattle.std.proofs.Common.{◌≡◌, ℕ, ◌+◌, Bool, true, false, cond, not, ◌&&◌, List, [], ◌∷◌, length, map, Option, Some, None, Result, Ok, Err, refl, sym, ap, subst, ◌∙◌}
+use Rattle.std.proofs.Common.{◌≡◌, ℕ, Bool, true, false, cond, ◌&&◌, List, map, Some, None, Ok, refl, sym, ap, ◌∙◌}
 use Rattle.std.specs.List.{list_all}
 use Rattle.ty_keys.specs.declared.key.Key.{Key}
 use Rattle.ty_keys.specs.declared.key.Key.TheVariants.{Ready, Global, HostConfig, HostIp, HostEndpoint, Workload, Policy, ProfileRules, ProfileLabels, NetSet, Pool, Resource}
-use Rattle.ty_keys.specs.declared.key.KeyFault.{KeyFault}
-use Rattle.ty_keys.specs.Grammar.{Piece, pieces, printed, is_piece, is_part, escaped}
+use Rattle.ty_keys.specs.Grammar.{pieces, printed, is_piece, is_part, escaped}
 use Rattle.ty_keys.specs.Faults.{Segment, placed}
-use Rattle.ty_keys.specs.Nets.{is_net, net_of, net_text}
-use Rattle.ty_keys.specs.Plurals.{Kind, kind_of, is_plural}
+use Rattle.ty_keys.specs.Nets.{is_net}
+use Rattle.ty_keys.specs.Plurals.{kind_of, is_plural}
 use Rattle.ty_keys.specs.Reading.{◌>>=◌, part_at, one_part, two_parts, four_parts, last_part, namespaced, of_kind, pool_of, read_segments}
 use Rattle.ty_keys.proofs.Units.{part_again, and_left, and_right}
 use Rattle.ty_keys.proofs.Networks.{net_again}

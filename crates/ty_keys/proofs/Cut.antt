@@ -1,12 +1,11 @@
 -- A text and its segments.
-use Rattle.std.proofs.Common.{◌≡◌, ℕ, ◌+◌, ◌<◌, ◌≤◌, Bool, true, false, cond, not, ◌&&◌, ◌==◌, List, [], ◌∷◌, ◌++◌, length, map, codes, decimal, Option, Some, None, refl, sym, ap, subst, ◌∙◌, arith, append_assoc, true≢false}
+use Rattle.std.proofs.Common.{◌≡◌, ℕ, ◌+◌, ◌<◌, Bool, true, false, cond, not, List, [], ◌∷◌, ◌++◌, length, map, refl, sym, ap, ◌∙◌, arith, true≢false}
 use borrow.Author.Tests.{eqb-true}
 use Rattle.std.specs.List.{list_all, flat_map, slice_split, onto_first, All}
-use Rattle.std.proofs.lemmas.List.{append-nil, length-append}
+use Rattle.std.proofs.lemmas.List.{append-nil}
 use Rattle.std.proofs.lemmas.List.Splits.{slice_split_at, slice_split_none}
 use Rattle.std.proofs.lemmas.List.Elements.{All-cons}
-use Rattle.ty_keys.specs.declared.key.Key.{Key}
-use Rattle.ty_keys.specs.Grammar.{Piece, Word, Part, Net, Plural, pieces, printed, slashed, is_piece, key_text}
+use Rattle.ty_keys.specs.Grammar.{Piece, printed, slashed}
 use Rattle.ty_keys.specs.Faults.{Segment, segments, placed, is_slash, after_slash}
 use Rattle.ty_keys.proofs.Named.{is_clear}
 use Rattle.ty_keys.proofs.Units.{and_left, and_right}

@@ -1,5 +1,5 @@
 -- Cutting a text at its first slash, and then the rest.
-use Rattle.std.proofs.Common.{◌≡◌, ℕ, ◌+◌, ◌<◌, ◌≤◌, Bool, true, false, cond, ◌==◌, List, [], ◌∷◌, ◌++◌, length, get_or, take, drop, refl, sym, ap, ◌∙◌, arith, inl, inr, nat_lt, not, true≢false, ◌-◌, Option, Some, None, Result, Ok}
+use Rattle.std.proofs.Common.{◌≡◌, ℕ, ◌+◌, ◌≤◌, Bool, true, false, cond, List, [], ◌∷◌, length, get_or, take, drop, refl, sym, ap, ◌∙◌, arith, inl, inr, nat_lt, not, true≢false, ◌-◌, Some, None, Ok}
 use borrow.Author.Tests.{eqb-true}
 use Rattle.ty_keys.specs.Reading.{next, is_end}
 use Rattle.std.specs.List.{slice_split, onto_first, position_or_len, before_first, after_first, All}
@@ -7,7 +7,7 @@ use Rattle.std.proofs.lemmas.Bool.{cases_lt, ltb-false}
 use Rattle.std.proofs.lemmas.List.{take_all, drop_all, drop_more, length-take-le, length-drop}
 use Rattle.std.proofs.lemmas.List.Sums.{passes_at_first, fails_before_first, prefix_len-le-length}
 use Rattle.std.proofs.lemmas.List.Splits.{slice_split_first, slice_split_none}
-use Rattle.ty_keys.specs.Faults.{Segment, segments, placed, is_slash, after_slash}
+use Rattle.ty_keys.specs.Faults.{segments, placed, is_slash, after_slash}
 use Rattle.ty_keys.specs.Views.{begins}
 
 -- nothing stands before the slash

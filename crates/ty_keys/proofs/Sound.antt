@@ -1,17 +1,17 @@
 -- What reading gives is the grammar's key with no fault, or the text's first fault.
-use Rattle.std.proofs.Common.{◌≡◌, ℕ, ◌+◌, Bool, true, false, cond, not, ◌&&◌, List, [], ◌∷◌, map, codes, Option, Some, None, Result, Ok, Err, refl, sym, ap, subst, ◌∙◌, true≢false}
+use Rattle.std.proofs.Common.{◌≡◌, ℕ, Bool, true, false, cond, ◌&&◌, List, [], ◌∷◌, map, codes, Option, Some, None, Result, Ok, Err, refl, sym, ap, subst, ◌∙◌}
 use Rattle.std.specs.List.{list_all}
 use Rattle.std.specs.Str.{bytes_eq}
 use Rattle.ty_keys.specs.declared.key.Key.{Key}
 use Rattle.ty_keys.specs.declared.key.Key.TheVariants.{Ready, Global, HostConfig, HostIp, HostEndpoint, Workload, Policy, ProfileRules, ProfileLabels, NetSet, Pool, Resource}
 use Rattle.ty_keys.specs.declared.key.KeyFault.{KeyFault}
 use Rattle.ty_keys.specs.declared.key.KeyFault.TheVariants.{NoForm}
-use Rattle.ty_keys.specs.Grammar.{Piece, Word, Part, Net, Plural, pieces, printed, is_piece, is_part}
-use Rattle.ty_keys.specs.Faults.{Segment, fault_in, or_else, part_fault, first_fault}
-use Rattle.ty_keys.specs.Nets.{net_of, net_text, is_net}
+use Rattle.ty_keys.specs.Grammar.{Piece, Word, Part, Net, Plural, pieces, printed, is_piece}
+use Rattle.ty_keys.specs.Faults.{Segment, fault_in, or_else, part_fault}
+use Rattle.ty_keys.specs.Nets.{net_of}
 use Rattle.ty_keys.specs.Plurals.{Kind, kind_of, is_plural, is_due}
-use Rattle.ty_keys.specs.Reading.{◌>>=◌, part_at, no_form, next, last, is_end, one_part, four_parts, last_part, and_last_part, host_ip, workload, of_host, hosts, of_tier, of_profile, policies, pool_of, pools, ready, of_v1, namespaced, of_kind, resources, of_root, read_segments}
-use Rattle.ty_keys.proofs.Units.{part_takes, part_fails, Part_is}
+use Rattle.ty_keys.specs.Reading.{◌>>=◌, part_at, no_form, next, one_part, four_parts, last_part, and_last_part, host_ip, workload, of_host, hosts, of_tier, of_profile, policies, pool_of, pools, ready, of_v1, namespaced, of_kind, resources, of_root, read_segments}
+use Rattle.ty_keys.proofs.Units.{part_takes, part_fails}
 use Rattle.ty_keys.proofs.Networks.{net_takes}
 use Rattle.ty_keys.proofs.Named.{same_text, plural_is, due_again}
 

@@ -1,5 +1,5 @@
 -- Reading whole texts.
-use Rattle.std.proofs.Common.{◌≡◌, ℕ, ◌+◌, ◌^◌, ◌<◌, ◌≤◌, Bool, true, false, cond, not, ◌&&◌, ◌==◌, nat_lt, nat_le, List, [], ◌∷◌, ◌++◌, length, map, decimal, codes, Option, Some, None, Result, Ok, Err, refl, sym, ap, subst, ◌∙◌, arith, rules, true≢false, ◌≢◌}
+use Rattle.std.proofs.Common.{◌≡◌, ℕ, ◌^◌, ◌<◌, ◌≤◌, Bool, true, false, cond, not, ◌&&◌, ◌==◌, nat_lt, nat_le, List, [], ◌∷◌, ◌++◌, length, map, decimal, Some, None, Result, Ok, Err, refl, sym, ap, subst, ◌∙◌, rules, true≢false, ◌≢◌}
 use Rattle.std.specs.Prelude.{IfOk, IfErr}
 use borrow.Author.Tests.{eqb-true, ltb-false, le-ltb}
 use Rattle.std.specs.List.{list_all, flat_map, slice_split}
@@ -20,7 +20,7 @@ use Rattle.ty_keys.proofs.Again.{all_again}
 use Rattle.ty_keys.proofs.Cut.{text_back, segments_joined, flat_printed, placed_texts}
 use Rattle.ty_keys.proofs.Named.{is_clear, named_by}
 use Rattle.ty_keys.proofs.Networks.{len_small}
-use Rattle.ty_keys.proofs.Sound.{Sound, Reads, all_sound, prints, texts}
+use Rattle.ty_keys.proofs.Sound.{Sound, Reads, all_sound, prints}
 use Rattle.ty_keys.proofs.Units.{and_left, and_right, escaped_clear}
 
 -- ---- no printed piece has a slash

@@ -1,10 +1,10 @@
 -- Parts as they are written, byte by byte.
-use Rattle.std.proofs.Common.{◌≡◌, ℕ, ◌+◌, ◌<◌, ◌≤◌, Bool, true, false, cond, not, ◌&&◌, ◌||◌, ◌==◌, List, [], ◌∷◌, ◌++◌, length, nat_lt, nat_le, Option, Some, None, Result, Ok, Err, refl, sym, ap, subst, ◌∙◌, arith, inl, inr, ◌⊎◌, true≢false, append_assoc}
+use Rattle.std.proofs.Common.{◌≡◌, ℕ, ◌+◌, Bool, true, false, cond, not, ◌&&◌, ◌||◌, ◌==◌, List, [], ◌∷◌, ◌++◌, length, nat_lt, Option, Some, None, Result, Ok, Err, refl, sym, ap, subst, ◌∙◌, arith, inl, inr, ◌⊎◌, true≢false, append_assoc}
 use Rattle.std.proofs.lemmas.List.{append-nil}
 use borrow.Author.Tests.{eqb-true, ne_eqb, lt-ltb}
-use Rattle.std.specs.List.{list_all, flat_map}
+use Rattle.std.specs.List.{list_all}
 use Rattle.ty_keys.specs.declared.key.KeyFault.{KeyFault}
-use Rattle.ty_keys.specs.declared.key.KeyFault.TheVariants.{EmptyPart, BadByte, BadEscape, NoMemory}
+use Rattle.ty_keys.specs.declared.key.KeyFault.TheVariants.{EmptyPart, BadByte, BadEscape}
 use Rattle.ty_keys.specs.Grammar.{escaped, escaped_byte, is_visible, is_plain, is_part}
 use Rattle.ty_keys.specs.Faults.{Segment, byte_fault, part_fault, is_code}
 use Rattle.ty_keys.specs.Reading.{part_at, unit_at, escape_at, unescaped, unless}

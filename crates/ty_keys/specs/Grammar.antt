@@ -2,7 +2,7 @@
 --     pieces k      what stands between the slashes of a key's text: fixed words and the key's parts
 --     key_text k    its one text
 --     IsKey k       its parts, plural and network are such as have a text, and the text isn't too long
-use Rattle.std.specs.Prelude.{ℕ, ◌≡◌, ◌≤◌, Bool, true, false, not, ◌&&◌, ◌==◌, nat_lt, nat_le, List, [], ◌∷◌, ◌++◌, length, codes, Option, None, Some, if◌then◌else◌}
+use Rattle.std.specs.Prelude.{ℕ, ◌≡◌, ◌≤◌, Bool, true, false, not, ◌&&◌, ◌==◌, nat_lt, nat_le, List, [], ◌∷◌, length, codes, None, Some, if◌then◌else◌}
 use Rattle.std.specs.List.{list_all, flat_map}
 use Rattle.ty_keys.specs.declared.key.Key.{Key}
 use Rattle.ty_keys.specs.declared.key.Key.TheVariants.{Ready, Global, HostConfig, HostIp, HostEndpoint, Workload, Policy, ProfileRules, ProfileLabels, NetSet, Pool, Resource}

@@ -1,5 +1,4 @@
-use Rattle.std.proofs.Common.{ap, sym, ◌∙◌, ◌-◌, ◌≤◌, length, take, drop, arith}
-use Rattle.std.proofs.lemmas.List.{take_all, length-drop}
+use Rattle.std.proofs.Common.{ap, sym, ◌-◌, length, take, drop, arith}
 use Rattle.ty_keys.specs.Faults.{is_slash}
 use Rattle.ty_keys.specs.Reading.{next as next_of}
 use Rattle.ty_keys.proofs.Segments.{segments_none, next_is, whole_rest, position_or_len-le}

@@ -1,6 +1,5 @@
 use Rattle.std.proofs.Common.{length}
 use Rattle.std.specs.List.{position_or_len}
-use Rattle.std.proofs.lemmas.List.Sums.{prefix_len-le-length}
 use Rattle.ty_keys.specs.Faults.{is_slash}
 use Rattle.ty_keys.proofs.Segments.{past_end, position_or_len-le}
 use Rattle.ty_keys.proofs.cutting.segment_len.Goals as goal

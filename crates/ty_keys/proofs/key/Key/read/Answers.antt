@@ -1,4 +1,3 @@
-use Rattle.std.proofs.Common.{sym, ap, ◌∙◌}
 use Rattle.ty_keys.proofs.Texts.{found_from, only_from, clean_from, fault_from}
 use Rattle.ty_keys.proofs.key.Key.read.Goals as goal
 
