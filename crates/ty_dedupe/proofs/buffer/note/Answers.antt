@@ -1,0 +1,13 @@
+use Rattle.std.proofs.Common.{map, ap, ◌∙◌}
+use Rattle.std.specs.Str.{bytes_eq}
+use Rattle.indexmap.specs.IndexMap.{insert_entry}
+use Rattle.ty_dedupe.specs.Entries.{shown}
+use Rattle.ty_dedupe.proofs.Changed.{shown_insert}
+use Rattle.ty_dedupe.proofs.buffer.note.Goals as goal
+
+pub returns-clause-ok : goal.returns-clause-ok
+returns-clause-ok c =
+    let es = c.args.pairs.now.entries in
+    ap (map shown) c.in_ok-insert.ensures.entries
+    ∙ shown_insert es c.in_ok-key.key c.args.value
+    ∙ ap (λ k. insert_entry bytes_eq (map shown es) k c.args.value) (c.in_ok-key.ensures.ok ∙ c.as_str.ensures)

@@ -1,0 +1,4 @@
+pub mod Around
+pub mod Low
+pub mod Order
+pub mod Shared

@@ -1,0 +1,5 @@
+pub mod Ascending
+pub mod Fresh
+pub mod Nodes
+pub mod Shape
+pub mod Stack

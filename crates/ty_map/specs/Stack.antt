@@ -1,0 +1,20 @@
+-- The trees that a walk has still to finish, the lowest first.
+use Rattle.std.specs.Prelude.{ℕ, ◌+◌, ◌<◌, ◌≤◌, List, [], ◌∷◌, ◌++◌, length, map, reverse}
+use Rattle.std.specs.Borrow.{Bor}
+use Rattle.ty_base.specs.Feed.{Pairs}
+use Rattle.ty_map.specs.Shape.{Shape, Empty, Fork, pairs, height}
+
+-- the trees of a stack, its top first
+abbrev pub stacked : List (Bor Shape) → List Shape
+stacked ts = reverse (map (λ t. t.now) ts)
+
+-- the pairs that are left: of each tree its own and those of its right side
+abbrev pub rest : List Shape → Pairs
+rest [] = []
+rest (Empty ∷ ts) = rest ts
+rest (Fork l e r h ∷ ts) = (e ∷ pairs r) ++ rest ts
+
+-- each tree of the stack has a node, and room for all that it may put in its own place
+abbrev pub HasRoom : ℕ → List Shape → Type 0
+HasRoom room [] = Unit {0}
+HasRoom room (t ∷ ts) = (0 < height t) × (height t + length ts ≤ room) × HasRoom room ts
