@@ -2,3 +2,4 @@ pub mod Around
 pub mod Low
 pub mod Order
 pub mod Shared
+pub mod Stack

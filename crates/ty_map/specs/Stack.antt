@@ -1,6 +1,6 @@
 -- The trees that a walk has still to finish, the lowest first.
 use Rattle.std.specs.Prelude.{ℕ, ◌+◌, ◌<◌, ◌≤◌, List, [], ◌∷◌, ◌++◌, length, map, reverse}
-use Rattle.std.specs.Borrow.{Bor}
+use Rattle.std.proofs.Common.{Bor}
 use Rattle.ty_base.specs.Feed.{Pairs}
 use Rattle.ty_map.specs.Shape.{Shape, Empty, Fork, pairs, height}
 

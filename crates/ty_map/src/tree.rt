@@ -1,5 +1,5 @@
 // An AVL tree whose nodes are shared, seen as its shape.
-ghost use Rattle.std.specs.Prelude.{◌≡◌, ℕ, ◌*◌, ◌+◌, ◌^◌, ◌≤◌, max, ◌∷◌, ◌++◌, length, IfOk, IfNone, IfSome};
+ghost use Rattle.std.specs.Prelude.{◌≡◌, ℕ, ◌*◌, ◌+◌, ◌^◌, ◌<◌, ◌≤◌, max, ◌∷◌, ◌++◌, length, IfOk, IfNone, IfSome};
 ghost use Rattle.std.specs.Option.{option_copied};
 ghost use Rattle.std.specs.Arc.{arc_value};
 ghost use Rattle.ty_base.specs.Feed.{insert, remove, get};
@@ -96,6 +96,21 @@ impl Tree {
         match &self.root {
             Root::Leaf => 0,
             Root::Node(node) => node.height,
+        }
+    }
+
+    /// The left side, the pair and the right side of the topmost node, if there is one.
+    pub fn sides(&self) -> Option<(&Tree, &Pair, &Tree)>
+        ensures none { IfNone result (self.now ≡ Empty) }
+        ensures some { IfSome result (λ s. self.now ≡ Fork s.0.now (entry s.1.now) s.2.now (height self.now)) }
+        ensures lower { IfSome result (λ s. (height s.0.now < height self.now) × (height s.2.now < height self.now)) }
+    {
+        match &self.root {
+            Root::Leaf => None,
+            Root::Node(node) => {
+                let pair: &Pair = &node.pair;
+                Some((&node.left, pair, &node.right))
+            }
         }
     }
 
