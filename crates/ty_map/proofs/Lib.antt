@@ -1,4 +1,5 @@
 pub mod Around
+pub mod Between
 pub mod Low
 pub mod Order
 pub mod Shared

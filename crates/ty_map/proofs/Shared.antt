@@ -32,22 +32,22 @@ shapes_same Empty Empty p = refl
 shapes_same Empty (Fork m f s k) p = absurd (true≢false (sym p))
 shapes_same (Fork l e r h) Empty p = absurd (true≢false (sym p))
 shapes_same (Fork l e r h) (Fork m f s k) p =
-    let a = and_both (same_shape l m) (same_shape r s && (same_pair e f && (h == k))) p in
-    let b = and_both (same_shape r s) (same_pair e f && (h == k)) a.1 in
-    let d = and_both (same_pair e f) (h == k) b.1 in
-    let el = shapes_same l m a.0 in
-    let er = shapes_same r s b.0 in
-    let ee = (pairs_decide e f).0 d.0 in
-    let eh = (Decides-eqb h k).0 d.1 in
+    let a = and_both (same_pair e f) ((h == k) && (same_shape l m && same_shape r s)) p in
+    let b = and_both (h == k) (same_shape l m && same_shape r s) a.1 in
+    let d = and_both (same_shape l m) (same_shape r s) b.1 in
+    let el = shapes_same l m d.0 in
+    let er = shapes_same r s d.1 in
+    let ee = (pairs_decide e f).0 a.0 in
+    let eh = (Decides-eqb h k).0 b.0 in
     λ i. Fork (el i) (ee i) (er i) (eh i)
 
 same_itself : (t : Shape) → same_shape t t ≡ true
 same_itself Empty = refl
 same_itself (Fork l e r h) =
-    ap (λ b. b && (same_shape r r && (same_pair e e && (h == h)))) (same_itself l)
-    ∙ ap (λ b. b && (same_pair e e && (h == h))) (same_itself r)
-    ∙ ap (λ b. b && (h == h)) ((pairs_decide e e).1 refl)
-    ∙ (Decides-eqb h h).1 refl
+    ap (λ b. b && ((h == h) && (same_shape l l && same_shape r r))) ((pairs_decide e e).1 refl)
+    ∙ ap (λ b. b && (same_shape l l && same_shape r r)) ((Decides-eqb h h).1 refl)
+    ∙ ap (λ b. b && same_shape r r) (same_itself l)
+    ∙ same_itself r
 
 pub subtree_itself : (t : Shape) → is_subtree t t ≡ true
 subtree_itself Empty = refl
@@ -68,7 +68,7 @@ subtree_cases t l e r h p =
     ]
 
 -- the sides of a subtree are subtrees
-left_subtree : (t l : Shape) (e : List ℕ × List ℕ) (r : Shape) (h : ℕ) → is_subtree (Fork l e r h) t ≡ true → is_subtree l t ≡ true
+pub left_subtree : (t l : Shape) (e : List ℕ × List ℕ) (r : Shape) (h : ℕ) → is_subtree (Fork l e r h) t ≡ true → is_subtree l t ≡ true
 left_subtree Empty l e r h p = absurd (true≢false (sym p))
 left_subtree (Fork a x b k) l e r h p =
     elim (subtree_cases (Fork l e r h) a x b k p) [
@@ -77,7 +77,7 @@ left_subtree (Fork a x b k) l e r h p =
       | inr (inr q) ↦ below_right l a x b k (left_subtree b l e r h q)
     ]
 
-right_subtree : (t l : Shape) (e : List ℕ × List ℕ) (r : Shape) (h : ℕ) → is_subtree (Fork l e r h) t ≡ true → is_subtree r t ≡ true
+pub right_subtree : (t l : Shape) (e : List ℕ × List ℕ) (r : Shape) (h : ℕ) → is_subtree (Fork l e r h) t ≡ true → is_subtree r t ≡ true
 right_subtree Empty l e r h p = absurd (true≢false (sym p))
 right_subtree (Fork a x b k) l e r h p =
     elim (subtree_cases (Fork l e r h) a x b k p) [
@@ -173,3 +173,7 @@ empty_fresh old n = omega arith
 
 pub at_most-more : (old t : Shape) (n m : ℕ) → n ≤ m → AtMostFresh old t n → AtMostFresh old t m
 at_most-more old t n m le p = omega arith
+
+pub fresh_is : (old t l : Shape) (e : List ℕ × List ℕ) (r : Shape) (h : ℕ) → t ≡ Fork l e r h → is_subtree t old ≡ false → fresh old t ≡ 1 + fresh old l + fresh old r
+unfolding fresh
+fresh_is old t l e r h is p = ap (fresh old) is ∙ ap (λ b. cond b 0 (1 + fresh old l + fresh old r)) (ap (λ s. is_subtree s old) (sym is) ∙ p)
