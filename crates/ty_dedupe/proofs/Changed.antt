@@ -10,12 +10,12 @@ use Rattle.std.proofs.lemmas.List.{reverse-append, append-nil}
 use Rattle.std.proofs.lemmas.List.Elements.{filter-append, filter_map-append}
 use Rattle.indexmap.specs.IndexMap.{insert_entry}
 use Rattle.ty_base.specs.declared.item.Item.{Item}
-use Rattle.ty_base.specs.declared.item.Item.TheVariants.{Put, Del, State, Mark}
+use Rattle.ty_base.specs.declared.item.Item.TheVariants.{State}
 use Rattle.ty_base.specs.declared.status.Status.{Status}
 use Rattle.ty_base.specs.Feed.{key_of, firsts}
 use Rattle.ty_base.proofs.Pairs.{firsts_any}
 use Rattle.ty_base.specs.Readings.{is_about, put_by, last_put}
-use Rattle.ty_dedupe.specs.Pending.{pending, status_in, last_status, Stands}
+use Rattle.ty_dedupe.specs.Pending.{pending, status_in, last_status}
 use Rattle.ty_dedupe.specs.Entries.{shown}
 
 itself : (k : List ℕ) → bytes_eq k k ≡ true
@@ -78,14 +78,14 @@ firsts_more (j ∷ ks) k =
     let other : List ℕ → Bool = λ q. not (bytes_eq j q) in
     ap (λ xs. j ∷ filter other xs) (firsts_more ks k)
     ∙ (elim (list_any (bytes_eq k) ks) as (λ a. j ∷ filter other (added (firsts ks) k a) ≡ added (j ∷ filter other (firsts ks)) k (bytes_eq k j || a)) [
-        | true ↦ elim (bytes_eq k j) as (λ b. j ∷ filter other (firsts ks) ≡ added (j ∷ filter other (firsts ks)) k (b || true)) [ true ↦ refl | false ↦ refl ]
-        | false ↦
-            ap (λ xs. j ∷ xs) (filter-append other (firsts ks) (k ∷ []))
-            ∙ (elim (bytes_eq k j) as (λ b. bytes_eq k j ≡ b → j ∷ (filter other (firsts ks) ++ filter other (k ∷ [])) ≡ added (j ∷ filter other (firsts ks)) k (b || false)) [
-                | true ↦ λ p. ap (λ b. j ∷ (filter other (firsts ks) ++ cond b (k ∷ []) [])) (dropped k j p) ∙ ap (λ xs. j ∷ xs) (append-nil (filter other (firsts ks)))
-                | false ↦ λ p. ap (λ b. j ∷ (filter other (firsts ks) ++ cond b (k ∷ []) [])) (apart k j p)
-              ] refl)
-      ])
+      | true ↦ elim (bytes_eq k j) as (λ b. j ∷ filter other (firsts ks) ≡ added (j ∷ filter other (firsts ks)) k (b || true)) [ true ↦ refl | false ↦ refl ]
+      | false ↦
+          ap (λ xs. j ∷ xs) (filter-append other (firsts ks) (k ∷ []))
+          ∙ (elim (bytes_eq k j) as (λ b. bytes_eq k j ≡ b → j ∷ (filter other (firsts ks) ++ filter other (k ∷ [])) ≡ added (j ∷ filter other (firsts ks)) k (b || false)) [
+            | true ↦ λ p. ap (λ b. j ∷ (filter other (firsts ks) ++ cond b (k ∷ []) [])) (dropped k j p) ∙ ap (λ xs. j ∷ xs) (append-nil (filter other (firsts ks)))
+            | false ↦ λ p. ap (λ b. j ∷ (filter other (firsts ks) ++ cond b (k ∷ []) [])) (apart k j p)
+          ] refl)
+    ])
 
 -- f, with o at k
 abbrev with_value : List ℕ → Option (List ℕ) → (List ℕ → Option (List ℕ)) → List ℕ → Option (List ℕ)
@@ -149,7 +149,7 @@ updated items x k e about =
     let o : Option (List ℕ) = put_by (Some x) in
     let values : (q : List ℕ) → with_value k o f q ≡ g q = λ q. sym (last_more items x q ∙ cases_put (is_about q x) x (find (is_about q) (reverse items)) ∙ ap (λ b. cond b o (f q)) (about q)) in
     let keys : firsts (filter_map key_of (items ++ x ∷ [])) ≡ added (firsts ks) k (list_any (bytes_eq k) (firsts ks)) =
-        ap firsts (filter_map-append key_of items (x ∷ []) ∙ ap (λ y. ks ++ cons_option y []) e) ∙ firsts_more ks k ∙ ap (added (firsts ks) k) (sym (firsts_any ks k)) in
+    ap firsts (filter_map-append key_of items (x ∷ []) ∙ ap (λ y. ks ++ cons_option y []) e) ∙ firsts_more ks k ∙ ap (added (firsts ks) k) (sym (firsts_any ks k)) in
     inserted k o f (firsts ks) (distinct_firsts ks) ∙ table_same (with_value k o f) g values _ ∙ ap (table g) (sym keys)
 
 -- an item of no key changes nothing that is pending

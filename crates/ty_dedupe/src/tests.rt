@@ -2,19 +2,33 @@
 use crate::{Buffer, Drained};
 use std::alloc::Global;
 use std::test::Fail;
-use ty_base::{Item, NoMemory, Status, Text};
+use ty_base::{Item, NoMemory, Status, Text, read_status};
 
-fn put(alloc: Global, key: &str, value: &str) -> Result<Item, NoMemory> {
-    Ok(Item::Put {
-        key: Text::of(alloc, key)?,
-        value: Text::of(alloc, value)?,
-    })
+// An item as a word: `a=1` puts, `a-` removes, a status is its text, and any other word is a blank line.
+fn item(alloc: Global, word: &str) -> Result<Item, NoMemory> {
+    if let Some((key, value)) = word.split_once('=') {
+        return Ok(Item::Put {
+            key: Text::of(alloc, key)?,
+            value: Text::of(alloc, value)?,
+        });
+    }
+    if let Some(status) = read_status(word.as_bytes()) {
+        return Ok(Item::State(status));
+    }
+    match word.split_once('-') {
+        Some((key, _)) => Ok(Item::Del {
+            key: Text::of(alloc, key)?,
+        }),
+        None => Ok(Item::Mark),
+    }
 }
 
-fn del(alloc: Global, key: &str) -> Result<Item, NoMemory> {
-    Ok(Item::Del {
-        key: Text::of(alloc, key)?,
-    })
+// What a buffer gives after the items of a script.
+fn drained(alloc: Global, buffer: &mut Buffer, script: &str) -> Result<Drained, NoMemory> {
+    for word in script.split_whitespace() {
+        buffer.put(alloc, &item(alloc, word)?)?;
+    }
+    buffer.drain(alloc)
 }
 
 // The pairs as a text, `a=1 b- `.
@@ -35,36 +49,23 @@ fn told(alloc: Global, drained: &Drained) -> Result<String, NoMemory> {
 }
 
 #[test]
-fn a_replaced_key_keeps_its_place(rt: HostRuntime) -> Result<(), Fail> {
+fn keeps_the_last_item_about_each_key_at_its_first_place(rt: HostRuntime) -> Result<(), Fail> {
     let alloc = rt.alloc();
     let mut buffer = Buffer::new(alloc);
-    buffer.put(alloc, &put(alloc, "a", "1")?)?;
-    buffer.put(alloc, &put(alloc, "b", "1")?)?;
-    buffer.put(alloc, &put(alloc, "a", "2")?)?;
-    let drained = buffer.drain(alloc)?;
-    assert_eq!(rt; told(alloc, &drained)?.as_str(), "a=2 b=1 ");
-    assert_eq!(rt; drained.pairs.len(), 2);
-    assert_eq!(rt; drained.status, None);
-    Ok(())
-}
-
-#[test]
-fn the_last_item_and_the_last_status_win(rt: HostRuntime) -> Result<(), Fail> {
-    let alloc = rt.alloc();
-    let mut buffer = Buffer::new(alloc);
-    buffer.put(alloc, &Item::State(Status::Resync))?;
-    buffer.put(alloc, &put(alloc, "a", "1")?)?;
-    buffer.put(alloc, &Item::Mark)?;
-    buffer.put(alloc, &del(alloc, "b")?)?;
-    buffer.put(alloc, &del(alloc, "a")?)?;
-    buffer.put(alloc, &put(alloc, "b", "3")?)?;
-    buffer.put(alloc, &Item::State(Status::InSync))?;
-    let drained = buffer.drain(alloc)?;
-    assert_eq!(rt; told(alloc, &drained)?.as_str(), "a- b=3 ");
-    assert_eq!(rt; drained.status, Some(Status::InSync));
-    let again = buffer.drain(alloc)?;
-    assert_eq!(rt; again.pairs.is_empty(), true);
-    assert_eq!(rt; again.status, None);
-    assert_eq!(rt; drained.pairs.into_vec().len(), 2);
+    for (script, pairs, status) in [
+        ("a=1 b=1 a=2", "a=2 b=1 ", None),
+        (
+            "resync a=1 . b- a- b=3 in-sync .",
+            "a- b=3 ",
+            Some(Status::InSync),
+        ),
+        ("", "", None),
+    ] {
+        let got = drained(alloc, &mut buffer, script)?;
+        assert_eq!(rt; told(alloc, &got)?.as_str(), pairs);
+        assert_eq!(rt; got.status, status);
+        assert_eq!(rt; got.pairs.is_empty(), script.is_empty());
+        assert_eq!(rt; got.pairs.into_vec().is_empty(), script.is_empty());
+    }
     Ok(())
 }

@@ -1,4 +1,4 @@
-use Rattle.std.proofs.Common.{map, ap, ◌∙◌, refl}
+use Rattle.std.proofs.Common.{map, ap}
 use Rattle.ty_dedupe.specs.Pending.{pending, last_status}
 use Rattle.ty_dedupe.specs.Entries.{shown}
 use Rattle.ty_dedupe.proofs.buffer.Buffer.drain.Goals as goal
