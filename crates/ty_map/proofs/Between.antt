@@ -67,10 +67,10 @@ counted_within p a t (Fork l e r h) s =
     elim (is_subtree (Fork l e r h) a) as (λ v. is_subtree (Fork l e r h) a ≡ v → counted p a t ≤ cond v 0 (one_if (p e.0) + counted p a l + counted p a r)) [
       | true ↦ λ q. omega (arith, counted-subtree p a t (within a t (Fork l e r h) s q))
       | false ↦ λ q. elim (subtree_cases t l e r h s) [
-          | inl i ↦ subst (λ x. counted p a x ≤ one_if (p e.0) + counted p a l + counted p a r) (sym i) (omega (arith, ap (λ v. cond v 0 (one_if (p e.0) + counted p a l + counted p a r)) q))
-          | inr (inl i) ↦ omega (arith, counted_within p a t l i)
-          | inr (inr i) ↦ omega (arith, counted_within p a t r i)
-        ]
+        | inl i ↦ subst (λ x. counted p a x ≤ one_if (p e.0) + counted p a l + counted p a r) (sym i) (omega (arith, ap (λ v. cond v 0 (one_if (p e.0) + counted p a l + counted p a r)) q))
+        | inr (inl i) ↦ omega (arith, counted_within p a t l i)
+        | inr (inr i) ↦ omega (arith, counted_within p a t r i)
+      ]
     ] refl
 
 abbrev keys : Shape → List (List ℕ)
@@ -138,13 +138,13 @@ told_apart a b (Fork l e r h) d =
     let left = told_apart a b l (differ_front (keys l) (e.0 ∷ keys r) differ) in
     let right = told_apart a b r of_right.1 in
     let disjoint : (x : List ℕ) → among (keys l) x ≡ true → among (keys r) x ≡ false = λ x g.
-        elim (among (keys r) x) as (λ v. among (keys r) x ≡ v → v ≡ false) [
-          | true ↦ λ f. absurd (true≢false (sym (among_next e.0 (keys r) x f) ∙ differ_between (keys l) (e.0 ∷ keys r) differ x g))
-          | false ↦ λ f. refl
-        ] refl in
+    elim (among (keys r) x) as (λ v. among (keys r) x ≡ v → v ≡ false) [
+      | true ↦ λ f. absurd (true≢false (sym (among_next e.0 (keys r) x f) ∙ differ_between (keys l) (e.0 ∷ keys r) differ x g))
+      | false ↦ λ f. refl
+    ] refl in
     let both = counted_both (among (keys l)) (among (keys r)) (among (keys whole)) disjoint
-        (λ x g. ap (λ ks. among ks x) split ∙ among_front (keys l) (e.0 ∷ keys r) x g)
-        (λ x g. ap (λ ks. among ks x) split ∙ among_back (keys l) (e.0 ∷ keys r) x (among_next e.0 (keys r) x g)) a b in
+    (λ x g. ap (λ ks. among ks x) split ∙ among_front (keys l) (e.0 ∷ keys r) x g)
+    (λ x g. ap (λ ks. among ks x) split ∙ among_back (keys l) (e.0 ∷ keys r) x (among_next e.0 (keys r) x g)) a b in
     let node = fresh_node a l e r h in
     elim (is_subtree whole b) as (λ v. is_subtree whole b ≡ v → fresh a whole ≤ counted (among (keys whole)) a b + cond v 0 (1 + fresh b l + fresh b r)) [
       | true ↦ λ q. omega (arith, fresh_counted (among (keys whole)) a whole (λ x g. g), counted_within (among (keys whole)) a whole b q)

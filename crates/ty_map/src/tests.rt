@@ -53,7 +53,11 @@ fn filled(alloc: Global, count: u32, turn: u32) -> Result<(Pairs, BTreeMap<u32, 
 // Whether a map tells what a map of std's does.
 fn alike(alloc: Global, map: &Pairs, model: &BTreeMap<u32, u32>) -> Result<bool, Fail> {
     let (one, other) = (told(alloc, map)?, told_by_std(alloc, model)?);
-    Ok(one.as_str() == other.as_str() && map.len() == model.len() && map.is_empty() == model.is_empty())
+    Ok(
+        one.as_str() == other.as_str()
+            && map.len() == model.len()
+            && map.is_empty() == model.is_empty(),
+    )
 }
 
 #[test]

@@ -176,7 +176,12 @@ impl Tree {
             Root::Node(node) => match node.left.split_first(alloc)? {
                 None => Ok(Some((Arc::try_clone(&node.pair)?, node.right.copy()?))),
                 Some((first, left)) => {
-                    let rest = balance(alloc, left, Arc::try_clone(&node.pair)?, node.right.copy()?)?;
+                    let rest = balance(
+                        alloc,
+                        left,
+                        Arc::try_clone(&node.pair)?,
+                        node.right.copy()?,
+                    )?;
                     Ok(Some((first, rest)))
                 }
             },
@@ -232,12 +237,7 @@ fn balance(alloc: Global, left: Tree, pair: Arc<Pair>, right: Tree) -> Result<Tr
 }
 
 // Joins sides of which the left is two higher: one rotation, or two where its inner side is the higher one.
-fn lean_left(
-    alloc: Global,
-    left: Tree,
-    pair: Arc<Pair>,
-    right: Tree,
-) -> Result<Tree, NoMemory>
+fn lean_left(alloc: Global, left: Tree, pair: Arc<Pair>, right: Tree) -> Result<Tree, NoMemory>
     requires sorted { IsAscending (pairs left ++ entry (arc_value pair) ∷ pairs right) }
     requires two_higher { height left ≡ height right + 2 }
     ensures pairs { IfOk result (λ t. pairs t ≡ pairs left ++ entry (arc_value pair) ∷ pairs right) }
@@ -262,12 +262,7 @@ fn lean_left(
 }
 
 // The same with the right two higher.
-fn lean_right(
-    alloc: Global,
-    left: Tree,
-    pair: Arc<Pair>,
-    right: Tree,
-) -> Result<Tree, NoMemory>
+fn lean_right(alloc: Global, left: Tree, pair: Arc<Pair>, right: Tree) -> Result<Tree, NoMemory>
     requires sorted { IsAscending (pairs left ++ entry (arc_value pair) ∷ pairs right) }
     requires two_higher { height right ≡ height left + 2 }
     ensures pairs { IfOk result (λ t. pairs t ≡ pairs left ++ entry (arc_value pair) ∷ pairs right) }

@@ -16,8 +16,7 @@ descend-requires t c =
     let high : 0 < height c.args.tree.now = omega arith in
     let fits : height c.args.tree.now + length (stacked was.items) ≤ vec_capacity is = omega (arith, c.push.ensures.capacity) in
     let below : HasRoom (vec_capacity is) (stacked was.items) = more_room (vec_capacity was) (vec_capacity is) (stacked was.items) c.push.ensures.capacity c.requires.room in
-    let whole : stacked is.items ≡ c.args.tree.now ∷ stacked was.items = ap stacked c.in-Ok.ensures.items ∙ stacked_push was.items c.args.tree in
-    (
+    let whole : stacked is.items ≡ c.args.tree.now ∷ stacked was.items = ap stacked c.in-Ok.ensures.items ∙ stacked_push was.items c.args.tree in (
       falls,
       (
         subst (λ ts. HasRoom (vec_capacity is) ts) (sym whole) (high, fits, below),
