@@ -4,6 +4,7 @@
 mod cutting;
 mod frames;
 mod grouping;
+mod guessing;
 mod laws;
 mod message;
 mod reading;

@@ -1,16 +1,18 @@
 // A message from its body.
-ghost use Rattle.std.specs.Prelude.{◌≡◌, ◌≤◌, ◌&&◌, length, IfOk, option_map};
+ghost use Rattle.std.specs.Prelude.{◌≡◌, ◌≤◌, ◌&&◌, length, IfOk, IfSome, option_map};
 ghost use Rattle.std.specs.Str.{IsUtf8, bytes_eq};
 ghost use Rattle.serde_json.specs.Read.{read};
 ghost use Rattle.serde_json.specs.View.{view, items_view};
-ghost use Rattle.ty_wire.specs.Wire.{body, parts_fit as parts};
+ghost use Rattle.ty_wire.specs.Wire.{Spells, body, parts_fit as parts};
 ghost use Rattle.ty_wire.specs.Members.{text_at as text_of, number_at as number_of, read_kind as kind_of, read_name as name_of, named, kind_at, small_of, hello_of, kvs_of, delta_of, delta_with, deltas_of, msg_by, msg_of};
 ghost use Rattle.ty_wire.specs.Bodies.{IsBody};
 
+use crate::guessing::guess;
 use crate::message::Msg;
 use crate::writing::{body_of, parts_fit};
 use serde_json::{Category, Value};
 use std::alloc::Global;
+use std::str;
 use ty_base::{Delta, Deltas, Kind, NoMemory, Text, read_status};
 
 // What a body is.
@@ -21,7 +23,39 @@ pub(crate) enum Body {
     Shape,
 }
 
+// What a body is. A KVs body is read by its tokens first, which decides all but those with another spelling.
 pub(crate) fn read_body(alloc: Global, bytes: &[u8]) -> Result<Body, NoMemory>
+    requires { length bytes.now ≤ 8388608 }
+    ensures { IfOk result (λ b. IsBody bytes.now b) }
+{
+    match read_kvs(alloc, bytes)? {
+        Some(msg) => Ok(Body::Message(msg)),
+        None => read_value(alloc, bytes),
+    }
+}
+
+// The KVs message that these bytes spell, where a guess finds it.
+fn read_kvs(alloc: Global, bytes: &[u8]) -> Result<Option<Msg>, NoMemory>
+    requires { length bytes.now ≤ 8388608 }
+    ensures { IfOk result (λ o. IfSome o (λ m. Spells bytes.now m)) }
+{
+    if !bytes.starts_with(b"{\"kvs\":[") {
+        return Ok(None);
+    }
+    let Ok(text) = str::from_utf8(bytes) else {
+        return Ok(None);
+    };
+    let Some(msg) = guess(alloc, text)? else {
+        return Ok(None);
+    };
+    if is_spelled(alloc, &msg, bytes)? {
+        Ok(Some(msg))
+    } else {
+        Ok(None)
+    }
+}
+
+fn read_value(alloc: Global, bytes: &[u8]) -> Result<Body, NoMemory>
     requires { length bytes.now ≤ 8388608 }
     ensures { IfOk result (λ b. IsBody bytes.now b) }
 {
