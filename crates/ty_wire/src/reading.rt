@@ -55,6 +55,7 @@ fn read_kvs(alloc: Global, bytes: &[u8]) -> Result<Option<Msg>, NoMemory>
     }
 }
 
+// What a body is, by the value that it is as JSON.
 fn read_value(alloc: Global, bytes: &[u8]) -> Result<Body, NoMemory>
     requires { length bytes.now ≤ 8388608 }
     ensures { IfOk result (λ b. IsBody bytes.now b) }
@@ -86,6 +87,7 @@ fn spelled_by(alloc: Global, value: &Value, bytes: &[u8]) -> Result<Body, NoMemo
     }
 }
 
+// Whether these bytes are the message's spelling, if they are UTF-8 and within the limit of a body.
 fn is_spelled(alloc: Global, msg: &Msg, bytes: &[u8]) -> Result<bool, NoMemory>
     ensures { IfOk result (λ b. b ≡ (parts msg.now && bytes_eq (body msg.now) bytes.now)) }
 {
@@ -96,6 +98,7 @@ fn is_spelled(alloc: Global, msg: &Msg, bytes: &[u8]) -> Result<bool, NoMemory>
     Ok(text.as_slice() == bytes)
 }
 
+// The message that a JSON value tells, if it tells one.
 fn message_in(alloc: Global, value: &Value) -> Result<Option<Msg>, NoMemory>
     ensures { IfOk result (λ m. m ≡ msg_of (view value.now)) }
 {

@@ -72,6 +72,7 @@ fn append_framed(text: &[u8], out: &mut Vec<u8>) -> Result<(), NoMemory>
     Ok(())
 }
 
+// The body of a message.
 pub(crate) fn body_of(alloc: Global, msg: &Msg) -> Result<Vec<u8>, NoMemory>
     ensures body { IfOk result (λ v. v.items ≡ body msg.now) }
     ensures utf8 { IfOk result (λ _. IsUtf8 (body msg.now)) }
@@ -81,6 +82,7 @@ pub(crate) fn body_of(alloc: Global, msg: &Msg) -> Result<Vec<u8>, NoMemory>
     Ok(writer.into_inner())
 }
 
+// The body of the KVs message of these deltas.
 fn kvs_body(alloc: Global, deltas: &[Delta]) -> Result<Vec<u8>, NoMemory>
     ensures body { IfOk result (λ v. v.items ≡ body (Kvs deltas.now)) }
     ensures utf8 { IfOk result (λ _. IsUtf8 (body (Kvs deltas.now))) }
@@ -121,6 +123,7 @@ fn put_hello(writer: &mut Writer, version: u64, host: &str) -> Result<(), NoMemo
     Ok(())
 }
 
+// A message of one number.
 fn put_number(writer: &mut Writer, name: &str, field: &str, n: u64) -> Result<(), NoMemory>
     ensures tokens { OnOk result (writer.new.tokens
         ≡ writer.old.tokens ++ number_tokens name.now field.now n) }
@@ -212,6 +215,8 @@ fn kind_text(kind: Kind) -> &'static str
     }
 }
 
+// Whether a message fits but for the length of its body. A number behind a reference is known to have 64 bits only
+// once it is read, so each is.
 pub(crate) fn parts_fit(msg: &Msg) -> bool
     ensures { result ≡ parts msg.now }
 {
