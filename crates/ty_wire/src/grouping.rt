@@ -1,11 +1,10 @@
 // The messages of a group, written one after another.
-ghost use Rattle.std.specs.Prelude.{◌≡◌, ◌≤◌, ◌<◌, ◌++◌, ◌∷◌, [], List, ℕ, length, drop, true, IfOk, OnOk, OnErr};
+ghost use Rattle.std.specs.Prelude.{◌≡◌, ◌≤◌, ◌<◌, ◌++◌, ◌∷◌, [], List, ℕ, length, drop, IfOk, OnOk, OnErr};
 ghost use Rattle.std.specs.List.{AllByRecursion};
 ghost use Rattle.ty_wire.specs.Limits.{IsWithinLimits};
 ghost use Rattle.ty_wire.specs.Wire.{IsWire, frames};
 ghost use Rattle.ty_wire.specs.Talk.{group, kvs_messages, status_messages};
 ghost use Rattle.ty_wire.specs.Sending.{Appends, IsSent};
-ghost use Rattle.ty_wire.specs.declared.message.Msg.{Msg as Message};
 ghost use Rattle.ty_wire.specs.declared.message.Msg.TheVariants.{Crumb};
 
 use crate::cutting::front_len;
