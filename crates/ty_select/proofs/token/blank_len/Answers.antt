@@ -1,0 +1,12 @@
+use Rattle.std.proofs.Common.{sym, ◌∙◌, arith, rules}
+use Rattle.std.proofs.lemmas.List.Sums.{prefix_len_is}
+use Rattle.ty_select.specs.Tokens.{is_blank}
+use Rattle.ty_select.proofs.token.blank_len.Goals as goal
+
+pub returns-then-not-is_blank : goal.returns-then-not-is_blank
+returns-then-not-is_blank c =
+    sym (prefix_len_is is_blank c.args.bytes.now c.loop-byte.count 0 (omega arith) (λ k h. c.loop-byte.invariant.1 k (omega arith)) (λ _. search rules))
+
+pub returns : goal.returns
+returns c =
+    sym (prefix_len_is is_blank c.args.bytes.now c.loop-byte.count 0 (omega arith) (λ k h. c.loop-byte.invariant.1 k (omega arith)) (λ h. absurd (omega arith)))
