@@ -97,3 +97,23 @@ token_at here =
 -- the first token of a text
 unfoldable pub lexeme : List ℕ → Lexeme
 lexeme bytes = token_at (drop (prefix_len is_blank bytes) bytes)
+
+-- a number for each kind
+abbrev pub number : Kind → ℕ
+number Word = 0
+number Quoted = 1
+number Open = 2
+number Close = 3
+number LeftBrace = 4
+number RightBrace = 5
+number Comma = 6
+number Bang = 7
+number NotEqual = 8
+number EqualEqual = 9
+number AndAnd = 10
+number OrOr = 11
+number End = 12
+number Junk = 13
+
+abbrev pub same_kind : Kind → Kind → Bool
+same_kind one other = number one == number other

@@ -2,7 +2,10 @@
 #![tactic(auto)]
 
 mod fault;
+mod piece;
+mod reading;
 mod selector;
+mod term;
 mod token;
 
 pub use fault::{SelectFault, Wanted};

@@ -1,7 +1,7 @@
 // One token of a selector's text, and what follows it.
 ghost use Rattle.std.specs.Prelude.{◌≡◌, ◌+◌, ◌==◌, length, slice_index, drop, take, []};
 ghost use Rattle.std.specs.List.{prefix_len, position_or_len};
-ghost use Rattle.ty_select.specs.Tokens.{is_blank, is_word_byte as is_word, is_quote as is_quoting, mark_kind, width, seen, lexeme, word_at, quoted_at, mark_at};
+ghost use Rattle.ty_select.specs.Tokens.{is_blank, is_word_byte as is_word, is_quote as is_quoting, mark_kind, width, seen, lexeme, token_at, word_at, quoted_at, mark_at, same_kind};
 
 use std::str;
 
@@ -44,9 +44,25 @@ const LONGEST_WORD: usize = 512;
 /// The first token of a text, after blanks.
 #[tactic(auto, unfolding(crate::specs::Tokens::lexeme))]
 pub(crate) fn next(bytes: &[u8]) -> Token<'_>
-    ensures { seen result ≡ lexeme bytes.now }
+    ensures kind { result.kind ≡ (lexeme bytes.now).kind }
+    ensures here { result.here.now ≡ (lexeme bytes.now).here }
+    ensures text { result.text.now ≡ (lexeme bytes.now).text }
+    ensures rest { result.rest.now ≡ (lexeme bytes.now).rest }
 {
-    let here = without_blanks(bytes);
+    token_at(after(bytes, blank_len(bytes)))
+}
+
+/// Whether two kinds are one.
+pub(crate) fn same_kind(one: Kind, other: Kind) -> bool
+    ensures { result ≡ same_kind one other }
+{
+    one as u8 == other as u8
+}
+
+// The first token of a text that doesn't begin with a blank.
+fn token_at(here: &[u8]) -> Token<'_>
+    ensures { seen result ≡ token_at here.now }
+{
     if here.is_empty() {
         return nothing(Kind::End, here);
     }
@@ -70,12 +86,6 @@ fn nothing(kind: Kind, here: &[u8]) -> Token<'_>
         text: "",
         rest: here,
     }
-}
-
-fn without_blanks(bytes: &[u8]) -> &[u8]
-    ensures { result.now ≡ drop (prefix_len is_blank bytes.now) bytes.now }
-{
-    after(bytes, blank_len(bytes))
 }
 
 fn blank_len(bytes: &[u8]) -> usize
