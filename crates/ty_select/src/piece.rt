@@ -101,7 +101,8 @@ fn texts_from(alloc: Global, first: Text, bytes: &[u8]) -> Result<(Texts, &[u8])
     list.push(first)?;
     let mut rest = bytes;
     // A comma is a byte, so there are no more of them.
-    for _ in 0..bytes.len() {
+    let count = bytes.len();
+    for _ in 0..count {
         let token = next(rest);
         if same_kind(token.kind, Kind::RightBrace) {
             return Ok((Texts { list }, token.rest));

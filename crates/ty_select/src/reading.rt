@@ -83,7 +83,8 @@ fn alternatives(
     list.push(first)?;
     let mut rest = bytes;
     // A mark is a byte, so there are no more of them.
-    for _ in 0..bytes.len() {
+    let count = bytes.len();
+    for _ in 0..count {
         let token = next(rest);
         if !same_kind(token.kind, Kind::OrOr) {
             return Ok((list, rest));
@@ -121,7 +122,8 @@ fn conditions(
     list.push(first)?;
     let mut rest = bytes;
     // A mark is a byte, so there are no more of them.
-    for _ in 0..bytes.len() {
+    let count = bytes.len();
+    for _ in 0..count {
         let token = next(rest);
         if !same_kind(token.kind, Kind::AndAnd) {
             return Ok((list, rest));
