@@ -1,15 +1,17 @@
 -- Reading one after the other, as a loop does.
-use Rattle.std.proofs.Common.{◌≡◌, ℕ, suc, ◌-◌, ◌+◌, ◌≤◌, ◌<◌, List, [], ◌∷◌, ◌++◌, length, Bool, true, false, cond, Result, Ok, Err, refl, sym, ap, ◌∙◌, subst, append_assoc, arith}
+use Rattle.std.proofs.Common.{◌≡◌, ◌≢◌, ℕ, zero, suc, ◌-◌, ◌+◌, ◌≤◌, ◌<◌, List, [], ◌∷◌, ◌++◌, length, Bool, true, false, cond, Result, Ok, Err, refl, sym, ap, ◌∙◌, subst, append_assoc, arith}
 use Rattle.std.proofs.lemmas.List.{append-nil}
+use Rattle.ty_select.specs.declared.fault.SelectFault.{SelectFault}
+use Rattle.ty_select.specs.declared.fault.SelectFault.TheVariants as faults
 use Rattle.ty_select.specs.declared.fault.Stop.{Stop}
 use Rattle.ty_select.specs.declared.fault.Stop.TheVariants.{Bad, TooDeep, Spent}
 use Rattle.ty_select.specs.declared.fault.Wanted.{Wanted}
 use Rattle.ty_select.specs.declared.fault.Wanted.TheVariants as wanted
 use Rattle.ty_select.specs.declared.token.Kind.{Kind}
 use Rattle.ty_select.specs.declared.token.Kind.TheVariants as kind
-use Rattle.ty_select.specs.Forms.{Form}
+use Rattle.ty_select.specs.Forms.{Form, negated}
 use Rattle.ty_select.specs.Tokens.{Lexeme, lexeme, same_kind}
-use Rattle.ty_select.specs.Reading.{◌>>=◌, Stops, Read, quoted, text, more_texts, texts_from, others, others_from, joined}
+use Rattle.ty_select.specs.Reading.{◌>>=◌, Stops, Read, mark, quoted, text, more_texts, texts_from, others, others_from, joined, conjunction, disjunction, negation, grouped, within, inside, unary, placed, from_the_front}
 
 -- what was read before, and what is still read
 abbrev pub with_front : {A : Type 0} → List A → Read (List A) → Read (List A)
@@ -164,3 +166,54 @@ pub bad_at : {Y : Type 0} (e : Stop) (here bytes : List ℕ) (w : Wanted) (total
 bad_at e here bytes w total is at h =
     let P : Stop → Type 0 = λ s. Stops s total in
     subst P (sym (is ∙ ap (λ l. Bad (length l) w) at)) h
+
+stops_through : {A B : Type 0} (e : Stop) (read : Result A Stop) (f : A → Result B Stop) → Stops e read → Stops e (read >>= f)
+stops_through Spent read f h = tt
+stops_through (Bad left w) read f h = ap (λ r. r >>= f) h
+stops_through (TooDeep left) read f h = ap (λ r. r >>= f) h
+
+stops_along : {A : Type 0} (e : Stop) (r s : Result A Stop) → r ≡ s → Stops e s → Stops e r
+stops_along {A} e r s is h =
+    let P : Result A Stop → Type 0 = λ x. Stops e x in
+    subst P (sym is) h
+
+-- a `!` or a `(` where none may be open any more, and where one may
+pub too_deep : (held : (List ℕ → Read Form) → List ℕ → Read Form) (levels : ℕ) (here bytes : List ℕ) → levels ≡ 0 → within (inside levels) held here bytes ≡ Err (TooDeep (length here))
+unfolding inside
+too_deep held levels here bytes e = ap (λ n. within (inside n) held here bytes) e
+
+one_more : (held : (List ℕ → Read Form) → List ℕ → Read Form) (levels : ℕ) (here bytes : List ℕ) → 0 < levels → within (inside levels) held here bytes ≡ held (unary (levels - 1)) bytes
+unfolding inside
+one_more held levels here bytes lt =
+    let n : levels ≡ suc (levels - 1) = omega arith in
+    ap (λ m. within (inside m) held here bytes) n
+
+module _ (levels : ℕ) (here bytes : List ℕ) (lt : 0 < levels) where
+  pub negation_read : (x : Form) (rest : List ℕ) → unary (levels - 1) bytes ≡ Ok (x, rest) → within (inside levels) negation here bytes ≡ Ok (negated x, rest)
+  negation_read x rest h = one_more negation levels here bytes lt ∙ ap (λ r. r >>= λ (y : Form × List ℕ). Ok (negated y.0, y.1)) h
+
+  pub negation_stops : (e : Stop) → Stops e (unary (levels - 1) bytes) → Stops e (within (inside levels) negation here bytes)
+  negation_stops e h = stops_along e _ _ (one_more negation levels here bytes lt) (stops_through e (unary (levels - 1) bytes) (λ y. Ok (negated y.0, y.1)) h)
+
+  pub group_read : (x : Form) (held rest : List ℕ) → disjunction (unary (levels - 1)) bytes ≡ Ok (x, held) → mark kind.Close wanted.Close held ≡ Ok rest → within (inside levels) grouped here bytes ≡ Ok (x, rest)
+  group_read x held rest h closed =
+      one_more grouped levels here bytes lt
+      ∙ ap (λ r. r >>= λ (y : Form × List ℕ). mark kind.Close wanted.Close y.1 >>= λ s. Ok (y.0, s)) h
+      ∙ ap (λ r. r >>= λ s. Ok (x, s)) closed
+
+  pub group_stops : (e : Stop) → Stops e (disjunction (unary (levels - 1)) bytes) → Stops e (within (inside levels) grouped here bytes)
+  group_stops e h =
+      stops_along e _ _ (one_more grouped levels here bytes lt)
+      (stops_through e (disjunction (unary (levels - 1)) bytes) (λ y. mark kind.Close wanted.Close y.1 >>= λ s. Ok (y.0, s)) h)
+
+  pub group_unclosed : (e : Stop) (x : Form) (held : List ℕ) → disjunction (unary (levels - 1)) bytes ≡ Ok (x, held) → Stops e (mark kind.Close wanted.Close held) → Stops e (within (inside levels) grouped here bytes)
+  group_unclosed e x held h s =
+      stops_along e _ _
+      (one_more grouped levels here bytes lt ∙ ap (λ r. r >>= λ (y : Form × List ℕ). mark kind.Close wanted.Close y.1 >>= λ s. Ok (y.0, s)) h)
+      (stops_through e (mark kind.Close wanted.Close held) (λ s. Ok (x, s)) s)
+
+-- a fault, told from the front
+pub fault_placed : (n : ℕ) (stop : Stop) (read : Result Form Stop) (e : SelectFault) → e ≡ placed n stop → Stops stop read → e ≢ faults.NoMemory → from_the_front n read ≡ Err e
+fault_placed n Spent read e is h ne = absurd (ne is)
+fault_placed n (Bad left w) read e is h ne = ap (from_the_front n) h ∙ ap Err (sym is)
+fault_placed n (TooDeep left) read e is h ne = ap (from_the_front n) h ∙ ap Err (sym is)

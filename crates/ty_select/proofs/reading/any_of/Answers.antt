@@ -1,8 +1,10 @@
-use Rattle.std.proofs.Common.{arith}
+use Rattle.std.proofs.Common.{arith, ◌∙◌}
+use Rattle.std.proofs.lemmas.List.{length-map}
 use Rattle.ty_select.proofs.Loops.{several}
+use Rattle.ty_select.proofs.Shapes.{form-Or}
 use Rattle.ty_select.specs.Forms.{form, forms}
 use Rattle.ty_select.specs.Reading.{any_of}
 use Rattle.ty_select.proofs.reading.any_of.Goals as goal
 
 pub returns-else-len-eq1 : goal.returns-else-len-eq1
-returns-else-len-eq1 c = several any_of (forms c.args.list.items) (λ e. c.if-len-eq1.false (omega (arith, e, c.len.ensures)))
+returns-else-len-eq1 c = form-Or c.args.list ∙ several any_of (forms c.args.list.items) (λ e. c.if-len-eq1.false (omega (arith, e, length-map c.args.list.items form)))
