@@ -1,3 +1,4 @@
 pub mod Lexing
 pub mod Loops
+pub mod Printed
 pub mod Shapes

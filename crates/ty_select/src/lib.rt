@@ -1,8 +1,10 @@
 //! Selectors over labels: their text is read exactly by the grammar, and printed texts read back.
 #![tactic(auto)]
 
+mod depth;
 mod fault;
 mod piece;
+mod printing;
 mod reading;
 mod selector;
 mod term;
