@@ -1,8 +1,8 @@
 -- How words and quoted texts are cut out.
-use Rattle.std.proofs.Common.{◌≡◌, ℕ, zero, suc, ◌+◌, ◌<◌, ◌≤◌, List, [], ◌∷◌, length, get_or, take, drop, Bool, true, false, not, ◌==◌, ◌||◌, cond, refl, sym, ap, ◌∙◌, subst, arith, ltb, eqb}
+use Rattle.std.proofs.Common.{◌≡◌, ℕ, zero, suc, ◌+◌, ◌<◌, ◌≤◌, List, [], ◌∷◌, length, take, drop, Bool, true, false, not, ◌==◌, ◌||◌, cond, refl, sym, ap, ◌∙◌, subst, arith}
 use Rattle.std.specs.List.{prefix_len, position_or_len, take_while}
 use Rattle.std.specs.Str.{IsAscii, IsUtf8, is_utf8}
-use Rattle.std.proofs.lemmas.List.Sums.{take_while-cons, prefix_len-le-length}
+use Rattle.std.proofs.lemmas.List.Sums.{take_while-cons}
 use Rattle.std.proofs.lemmas.Str.{IsUtf8-from_ascii, is_utf8-from_IsUtf8, IsUtf8-from_is_utf8}
 use Rattle.std.proofs.lemmas.Bool.Decides.{nat_tests}
 use Rattle.ty_select.specs.declared.token.Kind.TheVariants.{Word, Quoted, Junk}
@@ -23,8 +23,8 @@ word_is_ascii [] = ascii_nil
 word_is_ascii (x ∷ xs) =
     subst (λ l. IsAscii l) (sym (take_while-cons is_word_byte x xs))
     (elim (is_word_byte x) as (λ v. is_word_byte x ≡ v → IsAscii (cond v (x ∷ take_while is_word_byte xs) [])) [
-      true ↦ λ e. ascii_cons x _ (word_byte_is_ascii x e) (word_is_ascii xs)
-    | false ↦ λ _. ascii_nil
+      | true ↦ λ e. ascii_cons x _ (word_byte_is_ascii x e) (word_is_ascii xs)
+      | false ↦ λ _. ascii_nil
     ] refl)
 
 pub word_is_utf8 : (xs : List ℕ) (n : ℕ) → n ≡ prefix_len is_word_byte xs → IsUtf8 (take n xs)

@@ -1,5 +1,5 @@
 -- Reading one after the other, as a loop does.
-use Rattle.std.proofs.Common.{◌≡◌, ◌≢◌, ℕ, zero, suc, ◌-◌, ◌+◌, ◌≤◌, ◌<◌, List, [], ◌∷◌, ◌++◌, length, Bool, true, false, cond, Result, Ok, Err, refl, sym, ap, ◌∙◌, subst, append_assoc, arith}
+use Rattle.std.proofs.Common.{◌≡◌, ◌≢◌, ℕ, suc, ◌-◌, ◌+◌, ◌≤◌, ◌<◌, List, [], ◌∷◌, ◌++◌, length, Bool, true, false, cond, Result, Ok, Err, refl, sym, ap, ◌∙◌, subst, append_assoc, arith}
 use Rattle.std.proofs.lemmas.List.{append-nil}
 use Rattle.ty_select.specs.declared.fault.SelectFault.{SelectFault}
 use Rattle.ty_select.specs.declared.fault.SelectFault.TheVariants as faults
@@ -11,7 +11,7 @@ use Rattle.ty_select.specs.declared.token.Kind.{Kind}
 use Rattle.ty_select.specs.declared.token.Kind.TheVariants as kind
 use Rattle.ty_select.specs.Forms.{Form, negated}
 use Rattle.ty_select.specs.Tokens.{Lexeme, lexeme, same_kind}
-use Rattle.ty_select.specs.Reading.{◌>>=◌, Stops, Read, mark, quoted, text, more_texts, texts_from, others, others_from, joined, conjunction, disjunction, negation, grouped, within, inside, unary, placed, from_the_front}
+use Rattle.ty_select.specs.Reading.{◌>>=◌, Stops, Read, mark, quoted, more_texts, texts_from, others, others_from, joined, disjunction, negation, grouped, within, inside, unary, placed, from_the_front}
 
 -- what was read before, and what is still read
 abbrev pub with_front : {A : Type 0} → List A → Read (List A) → Read (List A)
@@ -43,10 +43,10 @@ module _ (k : Kind) (f : List ℕ → Read Form) (front : List Form) (count i : 
   goes_on x rest after lt found r h so_far =
       let more = others k f (count - (i + 1)) in
       let one = at_step lt
-        ∙ ap (λ b. with_front front (others_step b (f (lexeme bytes).rest) more bytes)) found
-        ∙ ap (λ l. with_front front (others_step true (f l) more bytes)) (sym r)
-        ∙ ap (λ y. with_front front (others_step true y more bytes)) h
-        ∙ regroup front x (more after) in
+      ∙ ap (λ b. with_front front (others_step b (f (lexeme bytes).rest) more bytes)) found
+      ∙ ap (λ l. with_front front (others_step true (f l) more bytes)) (sym r)
+      ∙ ap (λ y. with_front front (others_step true y more bytes)) h
+      ∙ regroup front x (more after) in
       sym one ∙ so_far
 
   stopped : (e : Stop) (rest : List ℕ) → i < count → same_kind (lexeme bytes).kind k ≡ true → rest ≡ (lexeme bytes).rest → f rest ≡ Err e
@@ -54,9 +54,9 @@ module _ (k : Kind) (f : List ℕ → Read Form) (front : List Form) (count i : 
   stopped e rest lt found r h so_far =
       let more = others k f (count - (i + 1)) in
       let one = at_step lt
-        ∙ ap (λ b. with_front front (others_step b (f (lexeme bytes).rest) more bytes)) found
-        ∙ ap (λ l. with_front front (others_step true (f l) more bytes)) (sym r)
-        ∙ ap (λ y. with_front front (others_step true y more bytes)) h in
+      ∙ ap (λ b. with_front front (others_step b (f (lexeme bytes).rest) more bytes)) found
+      ∙ ap (λ l. with_front front (others_step true (f l) more bytes)) (sym r)
+      ∙ ap (λ y. with_front front (others_step true y more bytes)) h in
       sym so_far ∙ one
 
   pub stops : (e : Stop) (rest : List ℕ) → i < count → same_kind (lexeme bytes).kind k ≡ true → rest ≡ (lexeme bytes).rest → Stops e (f rest)
@@ -99,9 +99,9 @@ module _ (front : List (List ℕ)) (count i : ℕ) (bytes : List ℕ) (total : R
   texts_end rest lt b r so_far =
       let more = more_texts (count - (i + 1)) in
       let one = texts_at lt
-        ∙ ap (λ v. with_front front (texts_step v (same_kind (lexeme bytes).kind kind.Comma) (lexeme bytes) (quoted (lexeme bytes).rest) more)) b
-        ∙ nothing_more front (lexeme bytes).rest
-        ∙ ap (λ (l : List ℕ). Ok (front, l)) (sym r) in
+      ∙ ap (λ v. with_front front (texts_step v (same_kind (lexeme bytes).kind kind.Comma) (lexeme bytes) (quoted (lexeme bytes).rest) more)) b
+      ∙ nothing_more front (lexeme bytes).rest
+      ∙ ap (λ (l : List ℕ). Ok (front, l)) (sym r) in
       sym so_far ∙ one
 
   pub texts_bad : i < count → same_kind (lexeme bytes).kind kind.RightBrace ≡ false → same_kind (lexeme bytes).kind kind.Comma ≡ false
@@ -109,8 +109,8 @@ module _ (front : List (List ℕ)) (count i : ℕ) (bytes : List ℕ) (total : R
   texts_bad lt b c so_far =
       let more = more_texts (count - (i + 1)) in
       let one = texts_at lt
-        ∙ ap (λ v. with_front front (texts_step v (same_kind (lexeme bytes).kind kind.Comma) (lexeme bytes) (quoted (lexeme bytes).rest) more)) b
-        ∙ ap (λ v. with_front front (texts_step false v (lexeme bytes) (quoted (lexeme bytes).rest) more)) c in
+      ∙ ap (λ v. with_front front (texts_step v (same_kind (lexeme bytes).kind kind.Comma) (lexeme bytes) (quoted (lexeme bytes).rest) more)) b
+      ∙ ap (λ v. with_front front (texts_step false v (lexeme bytes) (quoted (lexeme bytes).rest) more)) c in
       sym so_far ∙ one
 
   behind_comma : (rest : List ℕ) → i < count → same_kind (lexeme bytes).kind kind.RightBrace ≡ false → same_kind (lexeme bytes).kind kind.Comma ≡ true → rest ≡ (lexeme bytes).rest
@@ -127,8 +127,8 @@ module _ (front : List (List ℕ)) (count i : ℕ) (bytes : List ℕ) (total : R
   texts_go_on t rest after lt b c r h so_far =
       let more = more_texts (count - (i + 1)) in
       let one = behind_comma rest lt b c r
-        ∙ ap (λ y. with_front front (texts_step false true (lexeme bytes) y more)) h
-        ∙ regroup front t (more after) in
+      ∙ ap (λ y. with_front front (texts_step false true (lexeme bytes) y more)) h
+      ∙ regroup front t (more after) in
       sym one ∙ so_far
 
   texts_stopped : (e : Stop) (rest : List ℕ) → i < count → same_kind (lexeme bytes).kind kind.RightBrace ≡ false → same_kind (lexeme bytes).kind kind.Comma ≡ true → rest ≡ (lexeme bytes).rest

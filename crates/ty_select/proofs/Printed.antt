@@ -1,9 +1,9 @@
 -- Printing one after the other, as a loop does.
-use Rattle.std.proofs.Common.{◌≡◌, ℕ, ◌+◌, ◌-◌, ◌<◌, ◌≤◌, min, max, List, [], ◌∷◌, ◌++◌, length, get_or, drop, codes, refl, sym, ap, ◌∙◌, append_assoc, arith}
+use Rattle.std.proofs.Common.{◌≡◌, ℕ, ◌+◌, ◌<◌, ◌≤◌, min, max, List, [], ◌∷◌, ◌++◌, length, get_or, drop, codes, sym, ap, ◌∙◌, append_assoc, arith}
 use Rattle.std.proofs.lemmas.List.{at_drop_more, at_drop_all, append-nil}
 use Rattle.ty_select.specs.declared.selector.Selector.{Selector}
-use Rattle.ty_select.specs.Forms.{Form, Forms, form, forms, forms_of, none, more}
-use Rattle.ty_select.specs.Printing.{quoted_text, listed, set_text, printed, parted, deepest, depth}
+use Rattle.ty_select.specs.Forms.{form, forms, forms_of}
+use Rattle.ty_select.specs.Printing.{quoted_text, listed, printed, parted, deepest, depth}
 
 here_next : {X : Type 0} (xs : List X) (i : ℕ) (v : X) → i < length xs → v ≡ get_or xs i v → drop i xs ≡ v ∷ drop (i + 1) xs
 here_next {X} xs i v lt is = at_drop_more (λ (l : List X). l) xs i v lt ∙ ap (λ x. x ∷ drop (i + 1) xs) (sym is)

@@ -1,8 +1,8 @@
 -- What a selector says, level by level.
-use Rattle.std.proofs.Common.{◌≡◌, List, map, refl, sym, ap, ◌∙◌, Vec, Box, Global}
+use Rattle.std.proofs.Common.{◌≡◌, List, sym, ap, ◌∙◌, Vec, Box, Global}
 use Rattle.ty_select.specs.declared.selector.Selector.{Selector}
 use Rattle.ty_select.specs.declared.selector.Selector.TheFolds.{fold-roll-Selector, fold-roll-Selectors}
-use Rattle.ty_select.specs.declared.selector.Selector.TheOpen.{Selector-F, Selectors-F}
+use Rattle.ty_select.specs.declared.selector.Selector.TheOpen.{Selector-F}
 use Rattle.ty_select.specs.declared.selector.Selector.TheVariants.{rolls-Not, rolls-And, rolls-Or}
 use Rattle.ty_select.specs.declared.selector.Selector.TheViews as views
 use Rattle.ty_select.specs.Forms.{Form, form, forms, forms_of, form_step, negated, both, either}

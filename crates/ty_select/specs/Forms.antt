@@ -3,7 +3,6 @@ use Rattle.std.specs.Prelude.{ℕ, List, [], ◌∷◌, map}
 use Rattle.ty_select.specs.declared.selector.Selector.{Selector}
 use Rattle.ty_select.specs.declared.selector.Selector.TheOpen.{Selector-F}
 use Rattle.ty_select.specs.declared.selector.Selector.TheFolds.{fold-Selector}
-use Rattle.ty_select.specs.declared.selector.Selectors.{Selectors}
 
 mutual
   pub data Form : Type 0 where

@@ -1,5 +1,5 @@
 -- Reading from left to right, with the first fault that is met. A place is told by how many bytes are left there.
-use Rattle.std.specs.Prelude.{◌≡◌, ℕ, zero, suc, ◌-◌, List, [], ◌∷◌, length, Bool, ◌&&◌, Option, Some, None, Result, Ok, Err, if◌then◌else◌, codes}
+use Rattle.std.specs.Prelude.{◌≡◌, ℕ, zero, suc, ◌-◌, List, [], ◌∷◌, length, ◌&&◌, Option, Some, None, Result, Ok, Err, if◌then◌else◌, codes}
 use Rattle.std.specs.Str.{bytes_eq}
 use Rattle.ty_select.specs.declared.fault.SelectFault.{SelectFault}
 use Rattle.ty_select.specs.declared.fault.SelectFault.TheVariants as faults
@@ -99,12 +99,12 @@ operator_of k name =
     if same_kind k kind.EqualEqual then Some Equal
     else (if same_kind k kind.NotEqual then Some Unequal
     else (if same_kind k kind.Word then
-      (if bytes_eq name (codes "in") then Some In
-      else (if bytes_eq name (codes "not") then Some NotIn
-      else (if bytes_eq name (codes "contains") then Some Contains
-      else (if bytes_eq name (codes "starts") then Some Starts
-      else (if bytes_eq name (codes "ends") then Some Ends
-      else None)))))
+    (if bytes_eq name (codes "in") then Some In
+    else (if bytes_eq name (codes "not") then Some NotIn
+    else (if bytes_eq name (codes "contains") then Some Contains
+    else (if bytes_eq name (codes "starts") then Some Starts
+    else (if bytes_eq name (codes "ends") then Some Ends
+    else None)))))
     else None))
 
 -- what follows an operator

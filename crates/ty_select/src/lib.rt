@@ -12,3 +12,6 @@ mod token;
 
 pub use fault::{SelectFault, Wanted};
 pub use selector::{Selector, Selectors, Texts};
+
+#[cfg(test)]
+mod tests;

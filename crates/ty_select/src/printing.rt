@@ -72,7 +72,12 @@ fn print_test(label: &Text, operator: &str, value: &Text, out: &mut Vec<u8>) -> 
     print_quoted(value, out)
 }
 
-fn print_choice(label: &Text, operator: &str, values: &Texts, out: &mut Vec<u8>) -> Result<(), NoMemory>
+fn print_choice(
+    label: &Text,
+    operator: &str,
+    values: &Texts,
+    out: &mut Vec<u8>,
+) -> Result<(), NoMemory>
     ensures { OnOk result (out.new.items ≡ out.old.items ++ (label.now ++ (operator.now ++ set_text values.now))) }
 {
     push(out, label.as_str())?;
@@ -99,7 +104,11 @@ fn print_set(values: &[Text], out: &mut Vec<u8>) -> Result<(), NoMemory>
 fn print_quoted(value: &Text, out: &mut Vec<u8>) -> Result<(), NoMemory>
     ensures { OnOk result (out.new.items ≡ out.old.items ++ quoted_text value.now) }
 {
-    let quote = if holds_quote(value.bytes()) { "\"" } else { "'" };
+    let quote = if holds_quote(value.bytes()) {
+        "\""
+    } else {
+        "'"
+    };
     push(out, quote)?;
     push(out, value.as_str())?;
     push(out, quote)

@@ -1,7 +1,7 @@
 // A term that begins with a word: a function or a label's test.
-ghost use Rattle.std.specs.Prelude.{◌≡◌};
+ghost use Rattle.std.specs.Prelude.{◌≡◌, codes};
 ghost use Rattle.ty_select.specs.Forms.{form, all, global};
-ghost use Rattle.ty_select.specs.Reading.{Gives, operator_of, operand, quoted, test, membership, constant, primary};
+ghost use Rattle.ty_select.specs.Reading.{Gives, operator_of, operand, quoted, test, membership, constant, primary, word};
 
 use crate::fault::{Stop, Wanted};
 use crate::piece::{bad, is, mark, set, text, word};
@@ -146,16 +146,22 @@ fn operand(
             Ok((Selector::Contains(label, value), rest))
         }
         Operator::Starts => {
-            let rest = word("with", Wanted::With, bytes)?;
+            let rest = with(bytes)?;
             let (value, rest) = quoted(alloc, rest)?;
             Ok((Selector::Starts(label, value), rest))
         }
         Operator::Ends => {
-            let rest = word("with", Wanted::With, bytes)?;
+            let rest = with(bytes)?;
             let (value, rest) = quoted(alloc, rest)?;
             Ok((Selector::Ends(label, value), rest))
         }
     }
+}
+
+fn with(bytes: &[u8]) -> Result<&[u8], Stop>
+    ensures { Gives (λ rest. rest.now) result (word (codes "with") Wanted.With bytes.now) }
+{
+    word("with", Wanted::With, bytes)
 }
 
 fn quoted(alloc: Global, bytes: &[u8]) -> Result<(Text, &[u8]), Stop>

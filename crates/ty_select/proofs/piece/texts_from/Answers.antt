@@ -1,8 +1,8 @@
-use Rattle.std.proofs.Common.{◌≡◌, ◌++◌, ◌∷◌, [], length, true, false, sym, ap, ◌∙◌}
+use Rattle.std.proofs.Common.{length, sym, ap, ◌∙◌}
 use Rattle.std.proofs.lemmas.Result.{err_from_is_err_and}
 use Rattle.ty_select.specs.declared.fault.Wanted.TheVariants.{CommaOrBrace}
 use Rattle.ty_select.specs.declared.token.Kind.TheVariants.{RightBrace, Comma}
-use Rattle.ty_select.specs.Tokens.{lexeme, same_kind}
+use Rattle.ty_select.specs.Tokens.{same_kind}
 use Rattle.ty_select.specs.Reading.{texts_from}
 use Rattle.ty_select.proofs.Loops.{texts_end, texts_bad, texts_go_on, texts_stop, texts_run_out, bad_at}
 use Rattle.ty_select.proofs.piece.texts_from.Goals as goal
@@ -17,7 +17,7 @@ returns-then-not-same_kind c =
     let brace = ap (λ k. same_kind k RightBrace) (sym c.next-token.ensures.kind) ∙ sym c.same_kind.ensures ∙ c.if-same_kind.false in
     let comma = ap (λ k. same_kind k Comma) (sym c.next-token.ensures.kind) ∙ sym c.same_kind-in-loop.ensures ∙ c.if-not-same_kind.true in
     bad_at c.bad.result c.next-token.result.here.now c.loop.rest.now CommaOrBrace (texts_from c.args.first c.args.bytes.now) c.bad.ensures c.next-token.ensures.here
-      (texts_bad c.loop.list.items (length c.args.bytes.now) c.loop.counter c.loop.rest.now (texts_from c.args.first c.args.bytes.now) c.loop-test.true brace comma c.loop.invariant)
+    (texts_bad c.loop.list.items (length c.args.bytes.now) c.loop.counter c.loop.rest.now (texts_from c.args.first c.args.bytes.now) c.loop-test.true brace comma c.loop.invariant)
 
 pub returns-in_err-another : goal.returns-in_err-another
 returns-in_err-another c =
@@ -36,4 +36,4 @@ loop-preserved c =
 pub returns : goal.returns
 returns c =
     bad_at c.bad-2.result c.next.result.here.now c.loop.rest.now CommaOrBrace (texts_from c.args.first c.args.bytes.now) c.bad-2.ensures c.next.ensures.here
-      (texts_run_out c.loop.list.items (length c.args.bytes.now) c.loop.counter c.loop.rest.now (texts_from c.args.first c.args.bytes.now) c.loop-test.false c.loop.invariant)
+    (texts_run_out c.loop.list.items (length c.args.bytes.now) c.loop.counter c.loop.rest.now (texts_from c.args.first c.args.bytes.now) c.loop-test.false c.loop.invariant)

@@ -1,9 +1,9 @@
-use Rattle.std.proofs.Common.{◌≡◌, ◌-◌, ◌+◌, ◌++◌, ◌∷◌, [], length, true, false, Ok, sym, ap, ◌∙◌, arith}
+use Rattle.std.proofs.Common.{◌≡◌, ◌-◌, ◌+◌, ◌++◌, ◌∷◌, [], length, Ok, sym, ap, ◌∙◌, arith}
 use Rattle.std.proofs.lemmas.Result.{err_from_is_err_and}
 use Rattle.std.proofs.lemmas.List.{map_push}
 use Rattle.ty_select.specs.declared.token.Kind.TheVariants.{AndAnd, OrOr}
 use Rattle.ty_select.specs.Forms.{form, forms, negated}
-use Rattle.ty_select.specs.Tokens.{lexeme, same_kind}
+use Rattle.ty_select.specs.Tokens.{same_kind}
 use Rattle.ty_select.specs.Reading.{unary, conjunction, grouped, negation, others, others_from}
 use Rattle.ty_select.proofs.Loops.{with_front, goes_on, stops, ends, is_done, too_deep, negation_read, negation_stops, group_read, group_stops, group_unclosed}
 use Rattle.ty_select.proofs.Shapes.{form-Not}

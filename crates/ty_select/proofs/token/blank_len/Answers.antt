@@ -1,4 +1,4 @@
-use Rattle.std.proofs.Common.{sym, ◌∙◌, arith, rules}
+use Rattle.std.proofs.Common.{sym, arith, rules}
 use Rattle.std.proofs.lemmas.List.Sums.{prefix_len_is}
 use Rattle.ty_select.specs.Tokens.{is_blank}
 use Rattle.ty_select.proofs.token.blank_len.Goals as goal
