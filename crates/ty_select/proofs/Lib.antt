@@ -1,3 +1,4 @@
+pub mod Back
 pub mod Lexing
 pub mod Loops
 pub mod Printed

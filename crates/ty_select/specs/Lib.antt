@@ -1,4 +1,5 @@
 pub mod Forms
+pub mod Printable
 pub mod Printing
 pub mod Reading
 pub mod Tokens

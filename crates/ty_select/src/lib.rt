@@ -3,6 +3,7 @@
 
 mod depth;
 mod fault;
+mod laws;
 mod piece;
 mod printing;
 mod reading;
@@ -11,6 +12,7 @@ mod term;
 mod token;
 
 pub use fault::{SelectFault, Wanted};
+pub use laws::printed_reads_back;
 pub use selector::{Selector, Selectors, Texts};
 
 #[cfg(test)]
