@@ -1,5 +1,5 @@
 -- Parts that the values of several keys have.
-use Rattle.std.specs.Prelude.{ℕ, ◌||◌, List, [], ◌∷◌, codes}
+use Rattle.std.specs.Prelude.{[], ◌∷◌, codes}
 use Rattle.ty_rules.specs.Tests.{Test, object, text, text_of, array_of, object_of, required, all_of, any_of, whole_within}
 use Rattle.ty_rules.specs.Texts.{label_name, filled, port_name, protocol_name, protocol_with_ports}
 

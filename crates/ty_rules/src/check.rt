@@ -21,6 +21,7 @@ pub trait Check {
 }
 
 /// One rule and its test.
+#[derive(Drop)]
 pub struct Row<T>(pub Rule, pub T);
 
 impl<T: Test> Check for Row<T> {
@@ -36,6 +37,7 @@ impl<T: Test> Check for Row<T> {
 }
 
 /// Rules, and then others.
+#[derive(Drop)]
 pub struct Then<A, B>(pub A, pub B);
 
 impl<A: Check, B: Check> Check for Then<A, B> {
@@ -48,6 +50,7 @@ impl<A: Check, B: Check> Check for Then<A, B> {
 }
 
 /// No more rules.
+#[derive(Drop)]
 pub struct Done;
 
 impl Check for Done {
@@ -66,6 +69,7 @@ macro_rules! table {
 }
 
 /// An array, whose members are tried one after another. A value that is no array breaks the rule named first.
+#[derive(Drop)]
 pub struct ListOf<C>(pub Rule, pub C);
 
 impl<C: Check> Check for ListOf<C> {
@@ -89,6 +93,7 @@ fn check_each<C: Check>(alloc: Global, check: &C, list: &Vec<Value>) -> Result<(
 }
 
 /// The rules of a member, where it is there and is not null.
+#[derive(Drop)]
 pub struct IfGiven<'n, C>(pub &'n str, pub C);
 
 impl<C: Check> Check for IfGiven<'_, C> {

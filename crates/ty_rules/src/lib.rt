@@ -5,6 +5,8 @@ mod check;
 mod part;
 mod rule;
 mod test;
+#[cfg(test)]
+mod tests;
 mod text;
 mod tree;
 

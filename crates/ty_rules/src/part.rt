@@ -11,6 +11,7 @@ use crate::text::{Filled, LabelName, PortName, ProtocolName, ProtocolWithPorts};
 use serde_json::{Map, Value};
 
 /// An object of strings, each under the name of a label.
+#[derive(Drop)]
 pub struct Labels;
 
 impl Test for Labels {
@@ -31,6 +32,7 @@ fn are_labels(map: &Map<String, Value>) -> bool
 }
 
 /// An array of names of profiles, none of them empty.
+#[derive(Drop)]
 pub struct Profiles;
 
 impl Test for Profiles {
@@ -42,6 +44,7 @@ impl Test for Profiles {
 }
 
 /// A protocol's number or name.
+#[derive(Drop)]
 pub struct Protocol;
 
 impl Test for Protocol {
@@ -53,6 +56,7 @@ impl Test for Protocol {
 }
 
 /// The number or the name of a protocol that has ports.
+#[derive(Drop)]
 pub struct HasPorts;
 
 impl Test for HasPorts {
@@ -70,6 +74,7 @@ impl Test for HasPorts {
 }
 
 /// An array of ports with names.
+#[derive(Drop)]
 pub struct NamedPorts;
 
 impl Test for NamedPorts {
@@ -87,6 +92,7 @@ impl Test for NamedPorts {
 }
 
 /// 4 or 6.
+#[derive(Drop)]
 pub struct IpVersion;
 
 impl Test for IpVersion {

@@ -34,6 +34,7 @@ pub fn given<'v>(value: &'v Value, name: &str) -> Option<&'v Value>
 }
 
 /// True or false.
+#[derive(Drop)]
 pub struct IsBool;
 
 impl Test for IsBool {
@@ -45,6 +46,7 @@ impl Test for IsBool {
 }
 
 /// An object.
+#[derive(Drop)]
 pub struct IsObject;
 
 impl Test for IsObject {
@@ -56,6 +58,7 @@ impl Test for IsObject {
 }
 
 /// A string.
+#[derive(Drop)]
 pub struct IsText;
 
 impl Test for IsText {
@@ -67,6 +70,7 @@ impl Test for IsText {
 }
 
 /// A string that passes.
+#[derive(Drop)]
 pub struct TextOf<T>(pub T);
 
 impl<T: TextTest> Test for TextOf<T> {
@@ -87,6 +91,7 @@ fn all_pass<T: Test>(test: &T, list: &Vec<Value>) -> bool
 }
 
 /// An array of values that pass.
+#[derive(Drop)]
 pub struct ArrayOf<T>(pub T);
 
 impl<T: Test> Test for ArrayOf<T> {
@@ -101,6 +106,7 @@ impl<T: Test> Test for ArrayOf<T> {
 }
 
 /// An array that has a member.
+#[derive(Drop)]
 pub struct FilledArray;
 
 impl Test for FilledArray {
@@ -121,6 +127,7 @@ fn has_items(items: &Vec<Value>) -> bool
 }
 
 /// A member that is absent, null or passes.
+#[derive(Drop)]
 pub struct Optional<'n, T>(pub &'n str, pub T);
 
 impl<T: Test> Test for Optional<'_, T> {
@@ -135,6 +142,7 @@ impl<T: Test> Test for Optional<'_, T> {
 }
 
 /// A member that is there, is not null and passes.
+#[derive(Drop)]
 pub struct Required<'n, T>(pub &'n str, pub T);
 
 impl<T: Test> Test for Required<'_, T> {
@@ -159,6 +167,7 @@ pub fn is_whole_within(value: &Value, low: u64, high: u64) -> bool
 }
 
 /// A whole number from the first to the second.
+#[derive(Drop)]
 pub struct WholeWithin(pub u64, pub u64);
 
 impl Test for WholeWithin {
@@ -170,6 +179,7 @@ impl Test for WholeWithin {
 }
 
 /// A whole number from -2^63 to 2^64 - 1.
+#[derive(Drop)]
 pub struct Whole;
 
 impl Test for Whole {
@@ -184,6 +194,7 @@ impl Test for Whole {
 }
 
 /// What passes both.
+#[derive(Drop)]
 pub struct Both<A, B>(pub A, pub B);
 
 impl<A: Test, B: Test> Test for Both<A, B> {
@@ -195,6 +206,7 @@ impl<A: Test, B: Test> Test for Both<A, B> {
 }
 
 /// What passes one of the two.
+#[derive(Drop)]
 pub struct Or<A, B>(pub A, pub B);
 
 impl<A: Test, B: Test> Test for Or<A, B> {
@@ -206,6 +218,7 @@ impl<A: Test, B: Test> Test for Or<A, B> {
 }
 
 /// Every value.
+#[derive(Drop)]
 pub struct Anything;
 
 impl Test for Anything {
@@ -217,6 +230,7 @@ impl Test for Anything {
 }
 
 /// No value.
+#[derive(Drop)]
 pub struct Nothing;
 
 impl Test for Nothing {
@@ -242,6 +256,7 @@ macro_rules! any_of {
 }
 
 /// What passes the second where it passes the first.
+#[derive(Drop)]
 pub struct WhereAlso<A, B>(pub A, pub B);
 
 impl<A: Test, B: Test> Test for WhereAlso<A, B> {

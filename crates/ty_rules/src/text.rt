@@ -48,6 +48,7 @@ fn has_letter(bytes: &[u8]) -> bool
 }
 
 /// The name of a network interface: 1 to 15 bytes out of letters, digits, `_`, `.` and `-`.
+#[derive(Drop)]
 pub struct Interface;
 
 impl TextTest for Interface {
@@ -59,6 +60,7 @@ impl TextTest for Interface {
 }
 
 /// The name of a network interface, or `*`.
+#[derive(Drop)]
 pub struct InterfaceOrAll;
 
 impl TextTest for InterfaceOrAll {
@@ -70,6 +72,7 @@ impl TextTest for InterfaceOrAll {
 }
 
 /// The name of a label: 1 to 512 bytes out of letters, digits, `_`, `.`, `-` and `/`.
+#[derive(Drop)]
 pub struct LabelName;
 
 impl TextTest for LabelName {
@@ -81,6 +84,7 @@ impl TextTest for LabelName {
 }
 
 /// The name of a port: 1 to 128 bytes out of letters, digits, `_`, `.` and `-`, with a letter.
+#[derive(Drop)]
 pub struct PortName;
 
 impl TextTest for PortName {
@@ -94,6 +98,7 @@ impl TextTest for PortName {
 }
 
 /// This text.
+#[derive(Drop)]
 pub struct This<'t>(pub &'t str);
 
 impl TextTest for This<'_> {
@@ -105,6 +110,7 @@ impl TextTest for This<'_> {
 }
 
 /// A text that isn't empty.
+#[derive(Drop)]
 pub struct Filled;
 
 impl TextTest for Filled {
@@ -134,6 +140,7 @@ fn are_hex_pairs(bytes: &[u8]) -> bool
 }
 
 /// A hardware address: six pairs of hexadecimal digits, parted by `:`.
+#[derive(Drop)]
 pub struct Mac;
 
 impl TextTest for Mac {
@@ -145,6 +152,7 @@ impl TextTest for Mac {
 }
 
 /// A spelling of TCP, UDP or SCTP.
+#[derive(Drop)]
 pub struct ProtocolWithPorts;
 
 impl TextTest for ProtocolWithPorts {
@@ -156,6 +164,7 @@ impl TextTest for ProtocolWithPorts {
 }
 
 /// A spelling of a protocol.
+#[derive(Drop)]
 pub struct ProtocolName;
 
 impl TextTest for ProtocolName {
@@ -171,6 +180,7 @@ impl TextTest for ProtocolName {
 }
 
 /// What a rule of a policy does.
+#[derive(Drop)]
 pub struct Action;
 
 impl TextTest for Action {
@@ -185,6 +195,7 @@ impl TextTest for Action {
 }
 
 /// What a rule of a policy does, or nothing.
+#[derive(Drop)]
 pub struct ActionOrEmpty;
 
 impl TextTest for ActionOrEmpty {
