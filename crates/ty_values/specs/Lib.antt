@@ -1,0 +1,5 @@
+pub mod Items
+pub mod Keys
+pub mod Kinds
+pub mod Nets
+pub mod PolicyRules
