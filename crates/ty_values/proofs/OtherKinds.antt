@@ -19,6 +19,13 @@ pub no_rules : (kind : List ℕ) (d : Data)
     → ¬ (kind ≡ codes "NetworkSet") → ¬ (kind ≡ codes "GlobalNetworkSet") → ¬ (kind ≡ codes "HostEndpoint")
     → ¬ (kind ≡ codes "IPPool") → ¬ (kind ≡ codes "Tier") → spec_of kind d ≡ None
 no_rules kind d a b c e f g h i =
-    rw (unlike kind (codes "NetworkPolicy") a, unlike kind (codes "GlobalNetworkPolicy") b, unlike kind (codes "Profile") c,
-      unlike kind (codes "NetworkSet") e, unlike kind (codes "GlobalNetworkSet") f, unlike kind (codes "HostEndpoint") g,
-      unlike kind (codes "IPPool") h, unlike kind (codes "Tier") i) refl
+    rw (
+      unlike kind (codes "NetworkPolicy") a,
+      unlike kind (codes "GlobalNetworkPolicy") b,
+      unlike kind (codes "Profile") c,
+      unlike kind (codes "NetworkSet") e,
+      unlike kind (codes "GlobalNetworkSet") f,
+      unlike kind (codes "HostEndpoint") g,
+      unlike kind (codes "IPPool") h,
+      unlike kind (codes "Tier") i,
+    ) refl

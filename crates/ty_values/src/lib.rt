@@ -11,6 +11,8 @@ mod policies;
 mod policy_rules;
 mod resources;
 mod selectors;
+#[cfg(test)]
+mod tests;
 mod validity;
 
 pub use cleaning::clean;
