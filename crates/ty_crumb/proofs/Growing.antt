@@ -86,7 +86,7 @@ last_of_more : (xs : List ℕ) (d x : ℕ) → last_of d (xs ++ x ∷ []) ≡ x
 last_of_more [] d x = refl
 last_of_more (y ∷ ys) d x = last_of_more ys y x
 
-last_is_at : (cs : List ℕ) (d : ℕ) → get_or (d ∷ cs) (length cs) 0 ≡ last_of d cs
+pub last_is_at : (cs : List ℕ) (d : ℕ) → get_or (d ∷ cs) (length cs) 0 ≡ last_of d cs
 last_is_at [] d = refl
 last_is_at (c ∷ cs) d = last_is_at cs c
 
@@ -110,7 +110,7 @@ next_end : (items : List Item) (ps : List ℕ) (c q : ℕ) → AllNext false ite
 next_end items [] c q h l m t = elim (eq-or-lt_of_le l) [ inl e ↦ ap (world_at items) e | inr r ↦ h q r m t ]
 next_end items (p ∷ ps) c q h l m t = next_end items ps p q h.1 l m t
 
-settled_end : (items : List Item) → IsClosed items → world_at items (last_of 0 (cuts false items)) ≡ folded items
+pub settled_end : (items : List Item) → IsClosed items → world_at items (last_of 0 (cuts false items)) ≡ folded items
 unfolding cuts closings cuts_after
 settled_end items (inl e) = let P : List Item → Type 0 = λ b. world_at b (last_of 0 (cuts false b)) ≡ folded b in subst P (sym e) refl
 settled_end items (inr t) =

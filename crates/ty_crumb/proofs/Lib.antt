@@ -1,1 +1,4 @@
 pub mod Growing
+pub mod Fits
+pub mod Pendings
+pub mod Standing

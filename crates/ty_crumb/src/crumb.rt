@@ -1,0 +1,46 @@
+// A breadcrumb.
+ghost use Rattle.std.specs.Prelude.{◌≡◌, ◌&&◌, true};
+ghost use Rattle.ty_map.specs.Ascending.{IsAscending};
+ghost use Rattle.ty_crumb.specs.Limits.{pairs_fit, deltas_fit};
+
+use std::alloc::Global;
+use ty_base::{Deltas, Status};
+use ty_map::Pairs;
+
+/// The whole map at one place of the feed, and what changed from the breadcrumb before. It never changes. Each key
+/// has at most 1,024 bytes and each value at most 1,048,576.
+#[derive(Drop)]
+pub struct Crumb {
+    /// How many breadcrumbs came before.
+    pub number: u64,
+    pub status: Status,
+    /// How many items of the feed it counts.
+    pub cut: u64,
+    /// When it was made, in milliseconds.
+    pub at: u64,
+    pub pairs: Pairs,
+    /// What changed from the breadcrumb before.
+    pub deltas: Deltas,
+    pub ghost ascending: { IsAscending pairs },
+    pub ghost within: { (pairs_fit pairs && deltas_fit deltas) ≡ true },
+}
+
+impl Crumb {
+    ghost use Rattle.std.specs.Prelude.{◌≡◌, []};
+    ghost use Rattle.ty_crumb.specs.Crumbs.{Stands};
+
+    /// Breadcrumb 0, which stands for no entries. It takes no memory.
+    pub fn first(alloc: Global, at: u64) -> Crumb
+        ensures stands { Stands result [] }
+        ensures at { result.at ≡ at }
+    {
+        Crumb {
+            number: 0,
+            status: Status::Wait,
+            cut: 0,
+            at,
+            pairs: Pairs::empty(),
+            deltas: Deltas::new(alloc),
+        }
+    }
+}
