@@ -72,7 +72,7 @@ module _ (k v : List ℕ → Bool) where
 
   pub changes_pass : (a b : Pairs) (ks : List (List ℕ)) → list_all (pair_passes k v) b ≡ true → list_all k ks ≡ true → list_all (delta_passes k v) (changes a b ks) ≡ true
   changes_pass a b [] h p = refl
-  changes_pass a b (x ∷ ks) h p = change_passes x (get a x) (get b x) (changes a b ks) (left (k x) (list_all k ks) p) (get_passes b x h) (changes_pass a b ks h (right (k x) (list_all k ks) p))
+  changes_pass a b (x ∷ ks) h p = change_passes x (get a x) (get b x) (changes a b ks) (left (k x) (list_all k ks) p) (get_passes k v b x h) (changes_pass a b ks h (right (k x) (list_all k ks) p))
 
   -- a batch that passes leaves a map and deltas that pass
   pub batch_passes : (w : World) (items : List Item) → list_all (item_passes k v) items ≡ true → list_all (pair_passes k v) w.pairs ≡ true

@@ -11,6 +11,7 @@ use Rattle.ty_base.specs.declared.item.Item.{Item}
 use Rattle.ty_base.specs.declared.item.Item.TheVariants.{Put, Del, State, Mark}
 use Rattle.ty_base.specs.declared.status.Status.{Status}
 use Rattle.ty_base.specs.declared.delta.Delta.{Delta}
+use Rattle.ty_base.specs.declared.entry.Entry.{Entry}
 use Rattle.ty_base.specs.declared.delta.Kind.TheVariants.{Updated}
 use Rattle.ty_base.specs.Statuses.{same_status}
 use Rattle.ty_base.specs.Feed.{Pairs, World, get, start, after, folded, same_world, key_of, firsts, change, changes, changed}
@@ -18,6 +19,7 @@ use Rattle.ty_base.specs.Readings.{last_put}
 use Rattle.ty_base.proofs.Pairs.{IsInOrder, get-put_value, kept_key, firsts_any, changed_all, in_order-after, worlds_decide, same_statuses, itself}
 use Rattle.ty_base.proofs.Reading.{value_is}
 use Rattle.ty_dedupe.specs.Pending.{pending, status_in, last_status}
+use Rattle.ty_crumb.specs.Batches.{entry_of, next_entries}
 
 -- The value of a key of the batch
 
@@ -67,16 +69,20 @@ or_right false b h = h
 same_bytes : (k : List ℕ) → bytes_eq k k ≡ true
 same_bytes k = (bytes_decides k k).1 refl
 
+-- how a pending key changes a map
+abbrev pub changed_at : Pairs → List ℕ × Option (List ℕ) → Option Delta
+changed_at a p = change p.0 (get a p.0) p.1
+
 changes_by : (a b : Pairs) (f : List ℕ → Option (List ℕ)) (ks : List (List ℕ)) → ((q : List ℕ) → list_any (bytes_eq q) ks ≡ true → f q ≡ get b q)
-    → filter_map (λ p. change p.0 (get a p.0) p.1) (map (λ k. (k, f k)) ks) ≡ changes a b ks
+    → filter_map (changed_at a) (map (λ k. (k, f k)) ks) ≡ changes a b ks
 changes_by a b f [] h = refl
 changes_by a b f (k ∷ ks) h =
-    ap (λ o. cons_option (change k (get a k) o) (filter_map (λ p. change p.0 (get a p.0) p.1) (map (λ q. (q, f q)) ks))) (h k (ap (λ t. t || list_any (bytes_eq k) ks) (same_bytes k)))
+    ap (λ o. cons_option (change k (get a k) o) (filter_map (changed_at a) (map (λ q. (q, f q)) ks))) (h k (ap (λ t. t || list_any (bytes_eq k) ks) (same_bytes k)))
     ∙ ap (cons_option (change k (get a k) (get b k))) (changes_by a b f ks (λ q t. h q (or_right (bytes_eq q k) (list_any (bytes_eq q) ks) t)))
 
 -- what the pending keys change are the changes of the whole batch
 pub pending_changes : (w : World) (items : List Item)
-    → filter_map (λ p. change p.0 (get w.pairs p.0) p.1) (pending items) ≡ changes w.pairs (fold after w items).pairs (firsts (filter_map key_of items))
+    → filter_map (changed_at w.pairs) (pending items) ≡ changes w.pairs (fold after w items).pairs (firsts (filter_map key_of items))
 unfolding pending
 pending_changes w items =
     changes_by w.pairs (fold after w items).pairs (λ k. last_put k items) (firsts (filter_map key_of items))
@@ -149,9 +155,55 @@ same_where_nothing w items s =
     let none : Bool = length (changes w.pairs v.pairs ks) == 0 in
     same_test (none && same_status w.status v.status) (same_world w v)
     (λ h.
-        let pairs : w.pairs ≡ v.pairs = ap (fold changed w.pairs) (sym (none_at (changes w.pairs v.pairs ks) (left none (same_status w.status v.status) h))) ∙ changes_lead w items s in
-        let status : w.status ≡ v.status = same_statuses w.status v.status (right none (same_status w.status v.status) h) in
-        (worlds_decide w v).1 (λ i. record { pairs = pairs i; status = status i }))
+    let pairs : w.pairs ≡ v.pairs = ap (fold changed w.pairs) (sym (none_at (changes w.pairs v.pairs ks) (left none (same_status w.status v.status) h))) ∙ changes_lead w items s in
+    let status : w.status ≡ v.status = same_statuses w.status v.status (right none (same_status w.status v.status) h) in
+    (worlds_decide w v).1 (λ i. record { pairs = pairs i; status = status i }))
     (λ h.
-        let same : w ≡ v = (worlds_decide w v).0 h in
-        both (ap (λ ds. length ds == 0) (ap (λ x. changes w.pairs x.pairs ks) (sym same) ∙ changes_none w.pairs ks)) (ap (λ x. same_status w.status x.status) (sym same) ∙ itself w.status))
+    let same : w ≡ v = (worlds_decide w v).0 h in
+    both (ap (λ ds. length ds == 0) (ap (λ x. changes w.pairs x.pairs ks) (sym same) ∙ changes_none w.pairs ks)) (ap (λ x. same_status w.status x.status) (sym same) ∙ itself w.status))
+
+-- What is made
+
+-- the map, the deltas and the status that a batch makes over a world
+pub record Makes (w : World) (items : List Item) (map : Pairs) (ds : List Delta) (state : Status) : Type 0 where
+  pub deltas : ds ≡ changes w.pairs (fold after w items).pairs (firsts (filter_map key_of items))
+  pub pairs : map ≡ (fold after w items).pairs
+  pub status : state ≡ (fold after w items).status
+
+pub makes : (w : World) (items : List Item) (keys : List (List ℕ × Option (List ℕ))) (state : Option Status) (pairs : Pairs) (ds : List Delta) (status : Status)
+    → IsInOrder w.pairs → keys ≡ pending items → state ≡ last_status items → ds ≡ filter_map (changed_at w.pairs) keys → pairs ≡ fold changed w.pairs ds
+    → status ≡ unwrap_or state w.status → Makes w items pairs ds status
+makes w items keys state pairs ds status s k t d p u =
+    let told : ds ≡ changes w.pairs (fold after w items).pairs (firsts (filter_map key_of items)) = d ∙ ap (filter_map (changed_at w.pairs)) k ∙ pending_changes w items in
+    record {
+      deltas = told;
+      pairs = p ∙ ap (fold changed w.pairs) told ∙ changes_lead w items s;
+      status = u ∙ ap (λ o. unwrap_or o w.status) t ∙ pending_status w items;
+    }
+
+-- nothing is told exactly where the world is the same
+pub nothing_told : (w : World) (items : List Item) (pairs : Pairs) (ds : List Delta) (status : Status) → IsInOrder w.pairs → Makes w items pairs ds status
+    → ((length ds == 0) && same_status w.status status) ≡ same_world w (fold after w items)
+nothing_told w items pairs ds status s m =
+    ap (λ x. (length x == 0) && same_status w.status status) m.deltas
+    ∙ ap (λ x. (length (changes w.pairs (fold after w items).pairs (firsts (filter_map key_of items))) == 0) && same_status w.status x) m.status
+    ∙ same_where_nothing w items s
+
+pub made_world : (w : World) (items : List Item) (pairs : Pairs) (ds : List Delta) (status : Status) (v : World) → Makes w items pairs ds status
+    → v.pairs ≡ pairs → v.status ≡ status → v ≡ fold after w items
+made_world w items pairs ds status v m p s =
+    let e : v.pairs ≡ (fold after w items).pairs = p ∙ m.pairs in
+    let f : v.status ≡ (fold after w items).status = s ∙ m.status in
+    λ i. record { pairs = e i; status = f i }
+
+pub made_entries : (w : World) (items : List Item) (cut : ℕ) (pairs : Pairs) (ds : List Delta) (status : Status) (e : Entry) → Makes w items pairs ds status
+    → e.cut ≡ cut → e.status ≡ status → e.deltas ≡ ds → false ≡ same_world w (fold after w items) → e ∷ [] ≡ next_entries cut w items
+made_entries w items cut pairs ds status e m c s d t =
+    let v : World = fold after w items in
+    let f : e.status ≡ v.status = s ∙ m.status in
+    let g : e.deltas ≡ changes w.pairs v.pairs (firsts (filter_map key_of items)) = d ∙ m.deltas in
+    let same : e ≡ entry_of cut w v items = λ i. record { cut = c i; status = f i; deltas = g i } in
+    ap (λ x. x ∷ []) same ∙ ap (λ b. cond b [] (entry_of cut w v items ∷ [])) t
+
+pub no_entries : (w : World) (items : List Item) (cut : ℕ) → true ≡ same_world w (fold after w items) → [] ≡ next_entries cut w items
+no_entries w items cut t = ap (λ b. cond b [] (entry_of cut w (fold after w items) items ∷ [])) t

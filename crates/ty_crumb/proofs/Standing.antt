@@ -56,10 +56,10 @@ pub made_for : (c : Crumb) (m : Made) (ended : Bool) (before batch : List Item) 
 made_for c m ended before batch cut closed next at s entries stands =
     let w : world_of c ≡ folded before = s.world ∙ replay_closed before closed in
     let grown : book ended (before ++ batch) ≡ book false before ++ entries_of m =
-        the_book_grows ended before batch closed next
-        ∙ ap (λ n. book false before ++ next_entries n (folded before) batch) (sym at)
-        ∙ ap (λ x. book false before ++ next_entries cut x batch) (sym w)
-        ∙ ap (λ xs. book false before ++ xs) (sym entries) in
+    the_book_grows ended before batch closed next
+    ∙ ap (λ n. book false before ++ next_entries n (folded before) batch) (sym at)
+    ∙ ap (λ x. book false before ++ next_entries cut x batch) (sym w)
+    ∙ ap (λ xs. book false before ++ xs) (sym entries) in
     cases m (book false before) (book ended (before ++ batch)) grown stands
   where
     cases : (m : Made) (old new : List Entry) → new ≡ old ++ entries_of m → IfNext m (λ d. Stands d (old ++ entries_of m)) → IsMadeFor old new m

@@ -10,5 +10,4 @@ pub fn the_book_grows_by_the_next_batch()
     ensures { (ended : Bool) (before batch : List Item) → IsClosed before → IsNextBatch ended before batch
         → book ended (before ++ batch)
         ≡ book false before ++ next_entries (length before + length batch) (folded before) batch }
-{
-}
+{}

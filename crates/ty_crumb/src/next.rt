@@ -1,9 +1,10 @@
 // The next breadcrumb.
-ghost use Rattle.std.specs.Prelude.{◌≡◌, ◌+◌, ◌<◌, ◌≤◌, ◌^◌, Bool, false, List, [], ◌∷◌, ◌++◌, length, IfOk};
+ghost use Rattle.std.specs.Prelude.{◌≡◌, ◌==◌, ◌&&◌, ◌+◌, ◌<◌, ◌≤◌, ◌^◌, Bool, false, List, [], ◌∷◌, ◌++◌, length, IfOk};
 ghost use Rattle.std.specs.Option.{option_copied};
 ghost use Rattle.std.specs.List.{fold, filter_map};
 ghost use Rattle.ty_base.specs.declared.item.Item.{Item};
 ghost use Rattle.ty_base.specs.declared.entry.Entry.{Entry};
+ghost use Rattle.ty_base.specs.Statuses.{same_status as same};
 ghost use Rattle.ty_base.specs.Feed.{after, book, same_world, change, changed, get};
 ghost use Rattle.ty_dedupe.specs.Pending.{pending, last_status};
 ghost use Rattle.ty_crumb.specs.Batches.{IsBatch, IsClosed, IsNextBatch, next_entries};
@@ -11,7 +12,7 @@ ghost use Rattle.ty_crumb.specs.Crumbs.{Stands, world_of, is_unchanged, IfNext, 
 
 use crate::crumb::Crumb;
 use std::alloc::Global;
-use ty_base::{Delta, Deltas, Item, Kind, NoMemory, Text, same_status};
+use ty_base::{Delta, Deltas, Item, Kind, NoMemory, Status, Text, same_status};
 use ty_dedupe::{Buffer, Drained};
 use ty_map::Pairs;
 
@@ -52,7 +53,7 @@ pub fn next_crumb(
     let status = status.unwrap_or(last.status);
     let changed = changed_from(alloc, &last.pairs, pairs.into_vec())?;
     let Changed { pairs, deltas } = changed;
-    if deltas.is_empty() && same_status(last.status, status) {
+    if is_same(last.status, status, &deltas) {
         return Ok(Made::Unchanged);
     }
     Ok(Made::Crumb(Crumb {
@@ -63,6 +64,13 @@ pub fn next_crumb(
         pairs,
         deltas,
     }))
+}
+
+// Whether nothing changed.
+fn is_same(before: Status, after: Status, deltas: &Deltas) -> bool
+    ensures { result ≡ ((length deltas.now == 0) && same before after) }
+{
+    deltas.is_empty() && same_status(before, after)
 }
 
 // What the items leave pending.
