@@ -1,0 +1,31 @@
+#!/bin/sh
+# Measures the built program: `stream`, and `stream | follow --brief`, over a feed of 5,000 updates of 1,000 keys,
+# and as a peer `wc -l` over the same feed. Prints seconds, MB/s and peak memory, where /usr/bin/time tells it.
+set -eu
+top=$(CDPATH='' cd -- "$(dirname -- "$0")/.." && pwd)
+program=$top/crates/typha/out/typha
+[ -x "$program" ] || { echo "build the program first: ./typha stream </dev/null" >&2; exit 1; }
+work=$(mktemp -d)
+trap 'rm -rf "$work"' EXIT
+awk 'BEGIN { for (i = 0; i < 5000; i++) printf "{\"key\":\"/calico/v1/config/k%d\",\"value\":\"v%d\"}\n", (i * 7919) % 1000, i }' >"$work/feed"
+bytes=$(wc -c <"$work/feed")
+measure() {
+    name=$1
+    shift
+    start=$(date +%s%N)
+    "$@"
+    end=$(date +%s%N)
+    awk -v n="$name" -v b="$bytes" -v t="$((end - start))" 'BEGIN { printf "%-24s %8.3f s %8.1f MB/s of feed\n", n, t / 1e9, b / 1e6 / (t / 1e9) }'
+}
+count() { wc -l <"$work/feed" >/dev/null; }
+stream() { "$program" stream <"$work/feed" >"$work/frames"; }
+follow() { "$program" follow --brief <"$work/frames" >"$work/text"; }
+both() { "$program" stream <"$work/feed" | "$program" follow --brief >"$work/text"; }
+measure "wc -l" count
+measure "stream" stream
+measure "follow --brief" follow
+measure "stream | follow --brief" both
+if [ -x /usr/bin/time ]; then
+    /usr/bin/time -f "stream: peak %M KB" "$program" stream <"$work/feed" >/dev/null
+    /usr/bin/time -f "follow --brief: peak %M KB" "$program" follow --brief <"$work/frames" >/dev/null
+fi
