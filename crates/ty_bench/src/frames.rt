@@ -18,8 +18,8 @@ fn message(alloc: Global) -> Result<Msg, NoMemory> {
     Ok(Msg::Kvs(deltas))
 }
 
-/// The bytes of so many frames.
-pub fn written(alloc: Global, count: u64) -> Result<Vec<u8>, NoMemory> {
+// The bytes of so many frames.
+pub(crate) fn written(alloc: Global, count: u64) -> Result<Vec<u8>, NoMemory> {
     let message = message(alloc)?;
     let mut out = Vec::new(alloc);
     for _ in 0..count {
@@ -35,8 +35,8 @@ fn append(alloc: Global, message: &Msg, out: &mut Vec<u8>) -> Result<(), NoMemor
     Ok(())
 }
 
-/// How many messages the bytes bring, in pieces.
-pub fn read_all(alloc: Global, bytes: &[u8]) -> Result<usize, NoMemory> {
+// How many messages the bytes bring, in pieces.
+pub(crate) fn read_all(alloc: Global, bytes: &[u8]) -> Result<usize, NoMemory> {
     let mut frames = Frames::new(alloc);
     let mut count: usize = 0;
     for piece in bytes.chunks(PIECE) {

@@ -9,8 +9,8 @@ fn key(alloc: Global, i: u64, keys: u64) -> Result<String, AllocError> {
     format!(in alloc; "/calico/v1/config/k{k}")
 }
 
-/// The number of pairs after so many puts into the held map.
-pub fn into_pairs(alloc: Global, count: u64, keys: u64) -> Result<usize, NoMemory> {
+// The number of pairs after so many puts into the held map.
+pub(crate) fn into_pairs(alloc: Global, count: u64, keys: u64) -> Result<usize, NoMemory> {
     let value = Text::of(alloc, "\"value\"")?;
     let mut pairs = Pairs::empty();
     for i in 0..count {
@@ -20,8 +20,8 @@ pub fn into_pairs(alloc: Global, count: u64, keys: u64) -> Result<usize, NoMemor
     Ok(pairs.len())
 }
 
-/// The number of pairs after so many puts into std's map.
-pub fn into_btree(alloc: Global, count: u64, keys: u64) -> Result<usize, NoMemory> {
+// The number of pairs after so many puts into std's map.
+pub(crate) fn into_btree(alloc: Global, count: u64, keys: u64) -> Result<usize, NoMemory> {
     let mut map = BTreeMap::new(alloc);
     for i in 0..count {
         let key = key(alloc, i, keys)?;
