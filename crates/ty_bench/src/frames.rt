@@ -10,9 +10,14 @@ fn message(alloc: Global) -> Result<Msg, NoMemory> {
     let mut deltas = Deltas::new(alloc);
     for i in 0..100u8 {
         deltas.push(Delta {
-            key: Text::from_string(format!(in alloc; "/calico/v1/host/node-{i}/workload/k8s/default%2fweb-{i}/endpoint/eth0")?),
+            key: Text::from_string(format!(in alloc;
+                "/calico/v1/host/node-{i}/workload/k8s/default%2fweb-{i}/endpoint/eth0"
+            )?),
             kind: Kind::Updated,
-            value: Some(Text::of(alloc, "{\"ipv4_nets\":[\"10.244.2.7/32\"],\"labels\":{\"app\":\"web\"},\"mac\":\"ee:ee:ee:ee:ee:ee\",\"name\":\"cali0a1b2c3d4e5\",\"state\":\"active\"}")?),
+            value: Some(Text::of(
+                alloc,
+                "{\"ipv4_nets\":[\"10.244.2.7/32\"],\"labels\":{\"app\":\"web\"},\"mac\":\"ee:ee:ee:ee:ee:ee\",\"name\":\"cali0a1b2c3d4e5\",\"state\":\"active\"}",
+            )?),
         })?;
     }
     Ok(Msg::Kvs(deltas))

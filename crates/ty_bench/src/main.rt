@@ -45,7 +45,10 @@ fn measure_puts<R: Clock + Print + AllocGlobal>(rt: &R, count: u64, keys: u64) -
     if pairs.is_err() || btree.is_err() {
         return rt.println("out of memory");
     }
-    println!(rt; "puts {count} keys {keys}: map {map} us, BTreeMap {peer} us, {} times as long", map / peer.max(1))
+    println!(rt;
+        "puts {count} keys {keys}: map {map} us, BTreeMap {peer} us, {} times as long",
+        map / peer.max(1)
+    )
 }
 
 // So many frames of 100 deltas each, written and read back in pieces of 65,536 bytes.
@@ -62,5 +65,7 @@ fn measure_frames<R: Clock + Print + AllocGlobal>(rt: &R, count: u64) -> io::Res
         return rt.println("out of memory");
     };
     let size = bytes.len();
-    println!(rt; "frames {count} of {size} bytes: written in {writing} us, {read} read in {reading} us")
+    println!(rt;
+        "frames {count} of {size} bytes: written in {writing} us, {read} read in {reading} us"
+    )
 }

@@ -1,4 +1,3 @@
 pub mod Books
 pub mod Ends
 pub mod Limits
-pub mod OneWord

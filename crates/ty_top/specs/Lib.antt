@@ -1,3 +1,4 @@
 pub mod Endings
+pub mod Notes
 pub mod Streamed
 pub mod Words

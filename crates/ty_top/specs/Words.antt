@@ -1,6 +1,26 @@
 -- The command line's words.
-use Rattle.std.specs.Prelude.{◌≡◌, ℕ, List, [], ◌∷◌, codes}
+use Rattle.std.specs.Prelude.{ℕ, true, false, List, [], ◌∷◌, codes, Option, None, Some, if◌then◌else◌}
+use Rattle.std.specs.Str.{bytes_eq}
+use Rattle.ty_top.specs.declared.words.Command.{Command}
+use Rattle.ty_top.specs.declared.words.Command.TheVariants.{Stream, Follow}
 
--- the mode `stream`, which takes no option
-abbrev pub IsAsked : List (List ℕ) → Type 0
-IsAsked words = words ≡ codes "stream" ∷ []
+-- `stream` takes no option
+abbrev pub stream_with : List (List ℕ) → Option Command
+stream_with [] = Some Stream
+stream_with (o ∷ os) = None
+
+-- `follow` takes `--brief`, once
+abbrev pub follow_with : List (List ℕ) → Option Command
+follow_with [] = Some (Follow false)
+follow_with (o ∷ []) = if bytes_eq o (codes "--brief") then Some (Follow true) else None
+follow_with (o ∷ p ∷ os) = None
+
+abbrev pub mode_with : List ℕ → List (List ℕ) → Option Command
+mode_with mode options =
+    if bytes_eq mode (codes "stream") then stream_with options else (
+    if bytes_eq mode (codes "follow") then follow_with options else None)
+
+-- the mode, and then its options
+unfoldable pub command_of : List (List ℕ) → Option Command
+command_of [] = None
+command_of (mode ∷ options) = mode_with mode options

@@ -1,12 +1,10 @@
-// How a run ends, and what is told of it.
-ghost use Rattle.std.specs.Prelude.{◌≡◌, ◌++◌, decimal, OnOk, OnErr};
-ghost use Rattle.std.specs.Io.KnownBytes.{Appends};
-ghost use Rattle.ty_base.specs.Causes.{HasCause};
-ghost use Rattle.ty_base.specs.Fronts.{AppendsFront};
-ghost use Rattle.ty_top.specs.Endings.{status_of, note_of, IsTold};
+// How a run ends.
+ghost use Rattle.std.specs.Prelude.{◌≡◌, ◌⊎◌};
+ghost use Rattle.ty_client.specs.declared.fault.StreamFault.{StreamFault as Fault};
+ghost use Rattle.ty_top.specs.Endings.{status_of, fault_status as fault_status_of};
 
-use itoa::Buffer;
-use ty_base::{Failed, Sink, give_all};
+use ty_client::StreamFault;
+use ty_wire::WireFault;
 
 /// What the program does with the words, and its exit status.
 #[derive(Clone, Copy, Debug, PartialEq, Eq)]
@@ -32,11 +30,16 @@ pub(crate) enum Ending {
     Memory,
     /// Byte number 2^40 was taken.
     TooMuch,
+    /// The connection's bytes have this fault.
+    Fault(StreamFault),
+    /// The connection's end came inside a frame, of which there are so many bytes.
+    Cut(u64),
 }
 
 impl Ending {
     pub fn status(self) -> u8
-        ensures { result ≡ status_of self }
+        ensures exact { result ≡ status_of self }
+        ensures of_fault { (fault : Fault) → self ≡ Ending.Fault fault → (result ≡ 6) ⊎ (result ≡ 8) }
     {
         match self {
             Ending::Done => 0,
@@ -45,65 +48,19 @@ impl Ending {
             Ending::Read => 3,
             Ending::Write => 4,
             Ending::Memory => 5,
+            Ending::Fault(fault) => fault_status(fault),
             Ending::TooMuch => 8,
+            Ending::Cut(_) => 9,
         }
     }
 }
 
-// Tells of the ending, in one line. A fault of the notes changes nothing else.
-pub(crate) fn tell<E: Sink>(notes: &mut E, ending: Ending)
-    ensures { IsTold (E.held notes.old) (E.held notes.new) (E.count notes.old) (E.count notes.new) (note_of ending) }
+fn fault_status(fault: StreamFault) -> u8
+    ensures exact { result ≡ fault_status_of fault }
+    ensures known { (result ≡ 6) ⊎ (result ≡ 8) }
 {
-    let _ = try_tell(notes, ending);
-}
-
-fn try_tell<E: Sink>(notes: &mut E, ending: Ending) -> Result<(), Failed>
-    ensures ok { OnOk result (Appends (E.held notes.old) (E.held notes.new) (note_of ending)) }
-    ensures err { OnErr result (AppendsFront (E.held notes.old) (E.held notes.new) (note_of ending)) }
-    ensures cause { HasCause (E.count notes.old) (E.count notes.new) result }
-{
-    match ending {
-        Ending::Done => give_all(notes, b""),
-        Ending::Usage => give_all(notes, USAGE),
-        Ending::Line(line) => give_numbered(notes, b"typha: line ", line, b": not a feed line\n"),
-        Ending::Read => give_all(notes, b"typha: read fault\n"),
-        Ending::Write => give_all(notes, b"typha: write fault\n"),
-        Ending::Memory => give_all(notes, b"typha: out of memory\n"),
-        Ending::TooMuch => give_all(notes, b"typha: too much input\n"),
+    match fault {
+        StreamFault::Wire(WireFault::TooMuch) => 8,
+        _ => 6,
     }
-}
-
-const USAGE: &[u8] =
-    b"usage: typha stream|follow|sim|load|serve [--from N] [--brief] [--at ADDR] [--host NAME] [--tries N] [--number N] [--workers N]\n";
-
-// Gives a text that has a number in it.
-fn give_numbered<E: Sink>(
-    notes: &mut E,
-    before: &[u8],
-    number: u64,
-    after: &[u8],
-) -> Result<(), Failed>
-    ensures ok { OnOk result (Appends (E.held notes.old) (E.held notes.new) (before.now ++ (decimal number ++ after.now))) }
-    ensures err { OnErr result (AppendsFront (E.held notes.old) (E.held notes.new) (before.now ++ (decimal number ++ after.now))) }
-    ensures cause { HasCause (E.count notes.old) (E.count notes.new) result }
-{
-    let Ok(()) = give_all(notes, before) else {
-        return Err(Failed);
-    };
-    let Ok(()) = give_number(notes, number) else {
-        return Err(Failed);
-    };
-    let Ok(()) = give_all(notes, after) else {
-        return Err(Failed);
-    };
-    Ok(())
-}
-
-fn give_number<E: Sink>(notes: &mut E, number: u64) -> Result<(), Failed>
-    ensures ok { OnOk result (Appends (E.held notes.old) (E.held notes.new) (decimal number)) }
-    ensures err { OnErr result (AppendsFront (E.held notes.old) (E.held notes.new) (decimal number)) }
-    ensures cause { HasCause (E.count notes.old) (E.count notes.new) result }
-{
-    let mut buffer = Buffer::new();
-    give_all(notes, buffer.format(number).as_bytes())
 }

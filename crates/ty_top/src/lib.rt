@@ -2,7 +2,10 @@
 #![tactic(auto)]
 
 mod ending;
+mod following;
+mod notes;
 mod stream;
+mod streaming;
 mod top;
 mod words;
 

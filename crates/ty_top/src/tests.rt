@@ -172,6 +172,8 @@ fn words_and_bad_lines_have_their_notes(rt: HostRuntime) -> Result<(), Fail> {
         &["bake"],
         &["stream", "stream"],
         &["Stream"],
+        &["follow", "--brief", "--brief"],
+        &["follow", "--from"],
         &[""],
     ] {
         let ran = run(rt.alloc(), words, FEED.as_bytes(), GOOD)?;
@@ -225,5 +227,129 @@ fn devices_that_fail(rt: HostRuntime) -> Result<(), Fail> {
     assert_eq!(rt; ran.status, 4);
     assert!(rt; ran.given.is_empty());
     assert!(rt; ran.notes.as_slice() == b"typha: write fault\n".as_slice());
+    Ok(())
+}
+
+// A run of `follow` over a connection's bytes: the words, the bytes, the text and the note.
+fn follows(
+    alloc: Global,
+    words: &[&str],
+    bytes: &[u8],
+    status: u8,
+    text: &str,
+    note: &str,
+) -> Result<bool, NoMemory> {
+    let mut good = true;
+    for piece in [1usize, 7, 1000] {
+        let ran = run(alloc, words, bytes, Devices { piece, ..GOOD })?;
+        good = good
+            && ran.status == status
+            && ran.given.as_slice() == text.as_bytes()
+            && ran.notes.as_slice() == note.as_bytes();
+    }
+    Ok(good)
+}
+
+const TEXT: &str =
+    "at 0 wait-for-ready 0\nat 1 in-sync 1\n{\"key\":\"/calico/v1/Ready\",\"value\":\"true\"}\n";
+
+const BRIEF: &str = "at 0 wait-for-ready 0\nat 1 in-sync 1\n";
+
+const FIRST: &str = "at 0 wait-for-ready 0\n";
+
+const RESYNC: &str = "{\"m\":\"status\",\"status\":\"resync\"}";
+
+const CRUMB_3: &str = "{\"m\":\"crumb\",\"n\":3}";
+
+#[test]
+fn connections_are_followed(rt: HostRuntime) -> Result<(), Fail> {
+    let alloc = rt.alloc();
+    let whole = framed(alloc, &[HELLO, WAIT, CRUMB_0, READY, IN_SYNC, CRUMB_1])?;
+    let short = &whole[..whole.len() - 1];
+    assert!(rt; follows(alloc, &["follow"], &whole, 0, TEXT, "")?);
+    assert!(rt; follows(alloc, &["follow", "--brief"], &whole, 0, BRIEF, "")?);
+    assert!(rt;
+        follows(
+            alloc,
+            &["follow"],
+            short,
+            9,
+            FIRST,
+            "typha: stream cut 22\n"
+        )?
+    );
+    assert!(rt; follows(alloc, &["follow"], &[], 0, "", "")?);
+    Ok(())
+}
+
+#[test]
+fn faults_of_a_connection_have_their_notes(rt: HostRuntime) -> Result<(), Fail> {
+    let alloc = rt.alloc();
+    let long = &[0, 128, 0, 1];
+    assert!(rt;
+        follows(
+            alloc,
+            &["follow"],
+            long,
+            6,
+            "",
+            "typha: frame 1: too long 8388609\n"
+        )?
+    );
+    let again = framed(alloc, &[HELLO, RESYNC, CRUMB_3, CRUMB_3])?;
+    assert!(rt;
+        follows(
+            alloc,
+            &["follow"],
+            &again,
+            6,
+            "at 3 resync 0\n",
+            "typha: frame 4: crumb 3 after 3\n"
+        )?
+    );
+    let early = framed(alloc, &[HELLO, CRUMB_3])?;
+    assert!(rt;
+        follows(
+            alloc,
+            &["follow"],
+            &early,
+            6,
+            "",
+            "typha: frame 2: out of order\n"
+        )?
+    );
+    let other = framed(alloc, &["{\"m\":\"server_hello\",\"version\":2}"])?;
+    assert!(rt;
+        follows(
+            alloc,
+            &["follow"],
+            &other,
+            6,
+            "",
+            "typha: frame 1: version 2\n"
+        )?
+    );
+    let junk = framed(alloc, &[HELLO, "oops"])?;
+    assert!(rt;
+        follows(
+            alloc,
+            &["follow"],
+            &junk,
+            6,
+            "",
+            "typha: frame 2: not JSON\n"
+        )?
+    );
+    let shape = framed(alloc, &["{}"])?;
+    assert!(rt;
+        follows(
+            alloc,
+            &["follow"],
+            &shape,
+            6,
+            "",
+            "typha: frame 1: not a message\n"
+        )?
+    );
     Ok(())
 }

@@ -1,7 +1,7 @@
-use Rattle.std.proofs.Common.{◌++◌}
-use Rattle.std.specs.Prelude.{decimal}
+use Rattle.std.proofs.Common.{◌++◌, List, ℕ}
+use Rattle.std.specs.Prelude.{decimal, codes}
 use Rattle.ty_base.proofs.Known.{Appends-then, AppendsFront-more, AppendsFront-after}
-use Rattle.ty_top.proofs.ending.give_numbered.Goals as goal
+use Rattle.ty_top.proofs.notes.give_numbered.Goals as goal
 
 pub returns-in_default-clause-err : goal.returns-in_default-clause-err
 returns-in_default-clause-err g c = AppendsFront-more _ _ c.args.before.now (decimal c.args.number ++ c.args.after.now) c.in_default.ensures.err

@@ -1,0 +1,6 @@
+pub mod Small
+pub mod Judging
+pub mod Progress
+pub mod Connections
+pub mod Printed
+pub mod Followed

@@ -1,0 +1,77 @@
+use Rattle.std.proofs.Common.{◌≡◌, ◌<◌, ◌≤◌, ◌^◌, rules, arith, refl, sym, ◌∙◌, ap, take, length, subst, List, ℕ}
+use Rattle.std.proofs.lemmas.Grind.{common_steps}
+use Rattle.std.specs.Prelude.{Option}
+use Rattle.std.specs.Io.KnownBytes.{Appends, Consumes}
+use Rattle.ty_base.proofs.Known.{Consumes-same, Consumes-kept, Appends-same}
+use Rattle.ty_client.proofs.Followed.{following_begins, following_more, following_short, followed_kept, ended_by, stopped_by, nothing_followed, take_same, length_take, consumed_end}
+use Rattle.ty_client.specs.Following.{Seen}
+use Rattle.ty_client.proofs.following.follow.Goals as goal
+
+pub loop-taken-init : goal.loop-taken-init
+loop-taken-init g c = record {
+  piece = grind (arith, common_steps);
+  following = following_begins c.args.brief c.new-rebuild.result _ _ (Consumes-same _) c.new-rebuild.ensures.stands c.new-rebuild.ensures.fault;
+  reads = omega arith;
+  writes = omega arith;
+}
+
+pub unreachable-requires : goal.unreachable-requires
+unreachable-requires g c =
+    let short : c.loop-taken.taken < 2 ^ 40 = following_short _ _ _ _ _ _ _ c.loop-taken.invariant.following in
+    absurd (omega (arith, short))
+
+pub returns-in_default-clause-fault : goal.returns-in_default-clause-fault
+returns-in_default-clause-fault g c = nothing_followed c.args.brief c.new-rebuild.result _ _ (Consumes-same _) (Appends-same _) c.new-rebuild.ensures.stands
+
+pub returns-then-count-eq0-clause-ok : goal.returns-then-count-eq0-clause-ok
+returns-then-count-eq0-clause-ok g c =
+    let old : Seen = record { left = g.S.Source.left c.args.source.now; source_faults = g.S.Source.count c.args.source.now; held = g.K.Sink.held c.args.sink.now; sink_faults = g.K.Sink.count c.args.sink.now } in
+    let new : Seen = record { left = g.S.Source.left c.take.new.self; source_faults = g.S.Source.count c.take.new.self; held = g.K.Sink.held c.loop-taken.sink; sink_faults = g.K.Sink.count c.loop-taken.sink } in
+    let f = c.loop-taken.invariant.following in
+    let some : 0 < length c.take.new.buf = search rules in
+    (ended_by c.ended.result c.args.brief c.loop-taken.rebuild old new (g.S.Source.left c.loop-taken.source) (g.K.Sink.held c.loop-taken.sink) c.loop-taken.taken f
+    (consumed_end old.left (g.S.Source.left c.loop-taken.source) new.left f.bytes c.take.new.buf c.in-Ok-take.count f.consumed c.in-Ok-take.ensures.bytes.0 c.if-count-eq0.true)
+    refl (c.in-Ok-take.ensures.bytes.1 c.if-count-eq0.true some) c.ended.ensures).0
+
+pub returns-then-count-eq0-clause-fault : goal.returns-then-count-eq0-clause-fault
+returns-then-count-eq0-clause-fault g c =
+    let old : Seen = record { left = g.S.Source.left c.args.source.now; source_faults = g.S.Source.count c.args.source.now; held = g.K.Sink.held c.args.sink.now; sink_faults = g.K.Sink.count c.args.sink.now } in
+    let new : Seen = record { left = g.S.Source.left c.take.new.self; source_faults = g.S.Source.count c.take.new.self; held = g.K.Sink.held c.loop-taken.sink; sink_faults = g.K.Sink.count c.loop-taken.sink } in
+    let f = c.loop-taken.invariant.following in
+    let some : 0 < length c.take.new.buf = search rules in
+    (ended_by c.ended.result c.args.brief c.loop-taken.rebuild old new (g.S.Source.left c.loop-taken.source) (g.K.Sink.held c.loop-taken.sink) c.loop-taken.taken f
+    (consumed_end old.left (g.S.Source.left c.loop-taken.source) new.left f.bytes c.take.new.buf c.in-Ok-take.count f.consumed c.in-Ok-take.ensures.bytes.0 c.if-count-eq0.true)
+    refl (c.in-Ok-take.ensures.bytes.1 c.if-count-eq0.true some) c.ended.ensures).1
+
+pub returns-in-Err-clause-fault : goal.returns-in-Err-clause-fault
+returns-in-Err-clause-fault g c =
+    let old : Seen = record { left = g.S.Source.left c.args.source.now; source_faults = g.S.Source.count c.args.source.now; held = g.K.Sink.held c.args.sink.now; sink_faults = g.K.Sink.count c.args.sink.now } in
+    let new : Seen = record { left = g.S.Source.left c.take.new.self; source_faults = g.S.Source.count c.take.new.self; held = g.K.Sink.held c.hear_piece.new.sink; sink_faults = g.K.Sink.count c.hear_piece.new.sink } in
+    let f = c.loop-taken.invariant.following in
+    let fits : c.in-Ok-take.count ≤ length c.take.new.buf = search rules in
+    let room : c.in-Ok-take.count ≤ c.loop-taken.piece.len = search rules in
+    let same : take c.in-Ok-take.count c.deref.result.now ≡ take c.in-Ok-take.count c.take.new.buf =
+    ap (λ (x : List ℕ). take c.in-Ok-take.count x) c.deref.ensures.value ∙ take_same c.in-Ok-take.count c.loop-taken.piece.len c.take.new.buf c.loop-taken.piece.items fits room in
+    let consumes : Consumes (g.S.Source.left c.loop-taken.source) (g.S.Source.left c.take.new.self) (take c.in-Ok-take.count c.deref.result.now) =
+    subst (λ (x : List ℕ). Consumes (g.S.Source.left c.loop-taken.source) (g.S.Source.left c.take.new.self) x) (sym same) c.in-Ok-take.ensures.bytes.0 in
+    stopped_by c.in-Err.fault c.args.brief c.loop-taken.rebuild c.hear_piece.new.rebuild old new (g.S.Source.left c.loop-taken.source) (g.K.Sink.held c.loop-taken.sink) (g.K.Sink.count c.loop-taken.sink) c.loop-taken.taken
+    (take c.in-Ok-take.count c.deref.result.now) f consumes c.loop-taken.invariant.writes (c.in-Err.ensures.heard f.bytes f.ms f.stands)
+
+pub loop-taken-preserved : goal.loop-taken-preserved
+loop-taken-preserved g c =
+    let f = c.loop-taken.invariant.following in
+    let fits : c.in-Ok-take.count ≤ length c.take.new.buf = search rules in
+    let room : c.in-Ok-take.count ≤ c.loop-taken.piece.len = search rules in
+    let same : take c.in-Ok-take.count c.deref.result.now ≡ take c.in-Ok-take.count c.take.new.buf =
+    ap (λ (x : List ℕ). take c.in-Ok-take.count x) c.deref.ensures.value ∙ take_same c.in-Ok-take.count c.loop-taken.piece.len c.take.new.buf c.loop-taken.piece.items fits room in
+    let consumes : Consumes (g.S.Source.left c.loop-taken.source) (g.S.Source.left c.take.new.self) (take c.in-Ok-take.count c.deref.result.now) =
+    subst (λ (x : List ℕ). Consumes (g.S.Source.left c.loop-taken.source) (g.S.Source.left c.take.new.self) x) (sym same) c.in-Ok-take.ensures.bytes.0 in
+    let counted : c.in-Ok-take.count ≡ length (take c.in-Ok-take.count c.deref.result.now) = length_take c.in-Ok-take.count c.take.new.buf fits ∙ ap (λ (x : List ℕ). length x) (sym same) in
+    let heard = c.in-Ok-hear_piece.ensures.heard f.bytes f.ms f.stands in
+    record {
+      piece = search rules;
+      following = following_more c.args.brief c.loop-taken.rebuild c.hear_piece.new.rebuild (g.S.Source.left c.args.source.now) (g.S.Source.left c.loop-taken.source) (g.S.Source.left c.take.new.self)
+          (g.K.Sink.held c.args.sink.now) (g.K.Sink.held c.loop-taken.sink) (g.K.Sink.held c.hear_piece.new.sink) c.loop-taken.taken c.in-Ok-take.count (take c.in-Ok-take.count c.deref.result.now) f consumes counted heard.0 heard.1;
+      reads = omega (arith, c.loop-taken.invariant.reads, c.in-Ok-take.ensures.cause.later);
+      writes = omega (arith, c.loop-taken.invariant.writes, c.in-Ok-hear_piece.ensures.later);
+    }

@@ -1,0 +1,14 @@
+use Rattle.std.proofs.Common.{◌≡◌, false, true, refl, ap, sym, ◌∙◌}
+use Rattle.std.specs.Prelude.{is_some, None}
+use Rattle.ty_client.specs.Stands.{Rebuilding}
+use Rattle.ty_client.proofs.Connections.{brought_from, nothing_from, none_of}
+use Rattle.ty_client.proofs.rebuild.Rebuild.feed.Goals as goal
+
+pub returns-then-is_some-clause-heard : goal.returns-then-is_some-clause-heard
+returns-then-is_some-clause-heard c = λ before so_far ms s.
+    nothing_from _ c.args.self.now before so_far c.args.bytes.now ms c.new.result c.self.view_is (sym c.is_some.ensures ∙ c.if-is_some.true) c.new.ensures s
+
+pub returns-in-Ok-clause-heard : goal.returns-in-Ok-clause-heard
+returns-in-Ok-clause-heard c = λ before so_far ms s.
+    let n : c.self.inside.fault ≡ None = none_of c.self.inside.fault (sym c.is_some.ensures ∙ c.if-is_some.false) in
+    brought_from _ c.args.self.now _ before so_far c.args.bytes.now ms c.in-Ok.heard.ats c.in-Ok.heard.fault c.self.view_is n c.in-Ok.ensures.heard refl c.in-Ok.ensures.held c.if-self.false s

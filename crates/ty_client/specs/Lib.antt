@@ -1,0 +1,10 @@
+pub mod Limits
+pub mod Places
+pub mod Rebuilt
+pub mod Heard
+pub mod Stands
+pub mod Texts
+pub mod Steps
+pub mod Giving
+pub mod Following
+pub mod Pieces

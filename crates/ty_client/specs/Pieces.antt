@@ -1,0 +1,48 @@
+-- For private clauses: one piece of a source that is followed.
+use Rattle.std.specs.Prelude.{◌≡◌, ◌<◌, ◌++◌, ℕ, List, [], Option, None, Some, Bool, length, Result, Ok, Err}
+use Rattle.std.specs.Io.KnownBytes.{Appends}
+use Rattle.ty_base.specs.Causes.{Rose}
+use Rattle.ty_base.specs.Fronts.{AppendsFront}
+use Rattle.ty_wire.specs.declared.message.Msg.{Msg}
+use Rattle.ty_client.specs.declared.fault.StreamFault.{StreamFault}
+use Rattle.ty_client.specs.declared.following.FollowFault.{FollowFault}
+use Rattle.ty_client.specs.declared.following.FollowFault.TheVariants.{Stream, Cut, Read, Write, Link, NoMemory}
+use Rattle.ty_client.specs.Rebuilt.{ats_after}
+use Rattle.ty_client.specs.Heard.{Hears}
+use Rattle.ty_client.specs.Stands.{Rebuilding, Stands}
+use Rattle.ty_client.specs.Texts.{text_of}
+
+-- more messages were heard, and the text of what they rebuild was given
+pub record GivenAll (brief : Bool) (r : Rebuilding) (bytes : List ℕ) (ms : List Msg) (before now : Option (List ℕ)) : Type 0 where
+  pub more : List Msg
+  pub stands : Stands r [] bytes (ms ++ more)
+  pub given : Appends before now (text_of brief (ats_after ms more))
+
+-- of the bytes a front was heard, and a front of the text was given
+pub record GivenPart (brief : Bool) (bytes : List ℕ) (ms : List Msg) (before now : Option (List ℕ)) : Type 0 where
+  pub front : List ℕ
+  pub unheard : List ℕ
+  pub whole : bytes ≡ front ++ unheard
+  pub more : List Msg
+  pub fault : Option StreamFault
+  pub hears : Hears front (ms ++ more) fault
+  pub given : AppendsFront before now (text_of brief (ats_after ms more))
+
+abbrev pub IsPieceHeard : Bool → Result (Unit {0}) FollowFault → Rebuilding → List ℕ → List ℕ → List Msg → Option (List ℕ) → Option (List ℕ) → ℕ → ℕ → Type 0
+IsPieceHeard brief (Ok u) r bytes piece ms before now faults_before faults = GivenAll brief r (bytes ++ piece) ms before now × (r.fault ≡ None)
+IsPieceHeard brief (Err (Stream f)) r bytes piece ms before now faults_before faults = GivenAll brief r (bytes ++ piece) ms before now × (r.fault ≡ Some f)
+IsPieceHeard brief (Err Write) r bytes piece ms before now faults_before faults = ((part : GivenPart brief (bytes ++ piece) ms before now) × (part.unheard ≡ [])) × Rose faults_before faults
+IsPieceHeard brief (Err NoMemory) r bytes piece ms before now faults_before faults = GivenPart brief (bytes ++ piece) ms before now
+IsPieceHeard brief (Err (Cut left)) r bytes piece ms before now faults_before faults = ⊥
+IsPieceHeard brief (Err Read) r bytes piece ms before now faults_before faults = ⊥
+IsPieceHeard brief (Err Link) r bytes piece ms before now faults_before faults = ⊥
+
+-- a source ended behind a rest of n bytes
+abbrev pub EndsAt : Result (Unit {0}) FollowFault → ℕ → Type 0
+EndsAt (Ok u) n = n ≡ 0
+EndsAt (Err (Cut left)) n = (0 < left) × (left ≡ n)
+EndsAt (Err (Stream f)) n = ⊥
+EndsAt (Err Read) n = ⊥
+EndsAt (Err Write) n = ⊥
+EndsAt (Err Link) n = ⊥
+EndsAt (Err NoMemory) n = ⊥

@@ -1,0 +1,66 @@
+-- What a `Rebuild` stands for.
+use Rattle.std.specs.Prelude.{◌≡◌, ℕ, Bool, false, List, ◌++◌, Option, None, Some}
+use Rattle.ty_base.specs.Feed.{Pairs}
+use Rattle.ty_base.specs.declared.status.Status.{Status}
+use Rattle.ty_wire.specs.Wire.{frames}
+use Rattle.ty_wire.specs.Stream.{Stands as FramesStand}
+use Rattle.ty_wire.specs.Held.{Held as HeldFrames}
+use Rattle.ty_wire.specs.declared.message.Msg.{Msg}
+use Rattle.ty_client.specs.declared.fault.StreamFault.{StreamFault}
+use Rattle.ty_client.specs.Places.{next_frame, latest, status_in, number_in, has_status, judged, Judged}
+use Rattle.ty_client.specs.Rebuilt.{Rebuilt, rebuilt_map, ats, ats_after, last_held, pongs}
+use Rattle.ty_client.specs.Heard.{Hears, Holds}
+
+-- what is kept of a connection's messages
+pub record Staged : Type 0 where
+  pub frame : ℕ
+  pub status : Option Status
+  pub fresh : Bool
+  pub number : Option ℕ
+  pub pairs : Pairs
+
+abbrev pub staged : List Msg → Staged
+staged ms = record {
+  frame = next_frame ms;
+  status = latest status_in ms;
+  fresh = has_status ms;
+  number = latest number_in ms;
+  pairs = rebuilt_map ms;
+}
+
+-- the fields of a `Rebuild`, as contracts see them
+pub record Rebuilding : Type 0 where
+  pub unread : HeldFrames
+  pub stage : Staged
+  pub held : Option Rebuilt
+  pub up : List ℕ
+  pub fault : Option StreamFault
+  pub spent : Bool
+
+-- where there is no fault, all messages so far were good, and the stage is theirs
+pub record IsOpen (unread : HeldFrames) (stage : Staged) (bytes : List ℕ) (ms : List Msg) : Type 0 where
+  pub frames_stand : FramesStand unread bytes ms
+  pub no_wire_fault : unread.fault ≡ None
+  pub good : judged ms ≡ record { good = ms; fault = None }
+  pub stage_is : stage ≡ staged ms
+
+abbrev pub GoesOn : Option StreamFault → HeldFrames → Staged → List ℕ → List Msg → Type 0
+GoesOn None unread stage bytes ms = IsOpen unread stage bytes ms
+GoesOn (Some f) unread stage bytes ms = Unit {0}
+
+-- it stands for the connections before, and this one so far: its bytes, and the messages before their first fault
+pub record Stands (r : Rebuilding) (before : List (List ℕ)) (bytes : List ℕ) (ms : List Msg) : Type 0 where
+  pub unspent : r.spent ≡ false
+  pub hears : Hears bytes ms r.fault
+  pub goes_on : GoesOn r.fault r.unread r.stage bytes ms
+  pub held_before : Option Rebuilt
+  pub holds : Holds before held_before
+  pub held_is : r.held ≡ last_held held_before (ats ms)
+
+-- what a piece brings beyond the bytes before it: more good messages, what is rebuilt at their crumb ends, and a
+-- pong for each ping
+pub record Brought (old new : Rebuilding) (before : List (List ℕ)) (bytes piece : List ℕ) (ms : List Msg) (at_ends : List Rebuilt) : Type 0 where
+  pub more : List Msg
+  pub stands : Stands new before (bytes ++ piece) (ms ++ more)
+  pub at_ends_are : at_ends ≡ ats_after ms more
+  pub up : new.up ≡ old.up ++ frames (pongs more)

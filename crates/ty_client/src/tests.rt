@@ -1,0 +1,251 @@
+// Outside vectors, pieces, and sources and sinks that fail.
+use crate::{FollowFault, Rebuild, StreamFault, follow};
+use std::alloc::Global;
+use std::test::Fail;
+use ty_base::{MemSink, MemSource, Text};
+use ty_wire::WireFault;
+
+// A server hello, crumb 0 with `wait-for-ready`, and crumb 1 with one pair and `in-sync`.
+const READY: &[u8] =
+    b"\x00\x00\x00 {\"m\":\"server_hello\",\"version\":1}\x00\x00\x00({\"m\":\"status\",\"status\":\"wait-for-ready\"}\x00\x00\x00\x13{\"m\":\"crumb\",\"n\":0}\x00\x00\x00J{\"kvs\":[{\"key\":\"/calico/v1/Ready\",\"type\":\"new\",\"value\":\"true\"}],\"m\":\"kvs\"}\x00\x00\x00!{\"m\":\"status\",\"status\":\"in-sync\"}\x00\x00\x00\x13{\"m\":\"crumb\",\"n\":1}";
+
+// Where its frames end.
+const READY_ENDS: [usize; 7] = [0, 36, 80, 103, 181, 218, 241];
+
+const HELLO: &str = "{\"m\":\"server_hello\",\"version\":1}";
+
+const RESYNC: &str = "{\"m\":\"status\",\"status\":\"resync\"}";
+
+const CRUMB_3: &str = "{\"m\":\"crumb\",\"n\":3}";
+
+const NEW_A: &str = "{\"kvs\":[{\"key\":\"a\",\"type\":\"new\",\"value\":\"1\"}],\"m\":\"kvs\"}";
+
+const NEW_B: &str = "{\"kvs\":[{\"key\":\"b\",\"type\":\"new\",\"value\":\"2\"}],\"m\":\"kvs\"}";
+
+const NO_A: &str = "{\"kvs\":[{\"key\":\"a\",\"type\":\"deleted\"}],\"m\":\"kvs\"}";
+
+// The frames of a realistic feed.
+const REALISTIC: [&str; 12] = [
+    "{\"m\":\"server_hello\",\"version\":1}",
+    "{\"m\":\"status\",\"status\":\"wait-for-ready\"}",
+    "{\"m\":\"crumb\",\"n\":0}",
+    "{\"m\":\"status\",\"status\":\"resync\"}",
+    "{\"m\":\"crumb\",\"n\":1}",
+    "{\"kvs\":[{\"key\":\"/calico/v1/Ready\",\"type\":\"new\",\"value\":\"true\"},{\"key\":\"/calico/v1/config/LogSeverityScreen\",\"type\":\"new\",\"value\":\"\\\"Info\\\"\"},{\"key\":\"/calico/v1/host/node-1/bird_ip\",\"type\":\"new\",\"value\":\"\\\"192.168.10.1\\\"\"},{\"key\":\"/calico/v1/host/node-2/bird_ip\",\"type\":\"new\",\"value\":\"\\\"192.168.10.2\\\"\"},{\"key\":\"/calico/v1/host/node-1/workload/k8s/default%2fweb-1/endpoint/eth0\",\"type\":\"new\",\"value\":\"{\\\"ipv4_nets\\\":[\\\"10.244.1.5/32\\\"],\\\"labels\\\":{\\\"app\\\":\\\"web\\\"},\\\"mac\\\":\\\"ee:ee:ee:ee:ee:ee\\\",\\\"name\\\":\\\"cali0a1b2c3d4e5\\\",\\\"profile_ids\\\":[\\\"kns.default\\\"],\\\"state\\\":\\\"active\\\"}\"},{\"key\":\"/calico/v1/policy/tier/default/policy/allow-web\",\"type\":\"new\",\"value\":\"{\\\"inbound_rules\\\":[{\\\"action\\\":\\\"allow\\\",\\\"dst_ports\\\":[80,\\\"8000:8080\\\"],\\\"protocol\\\":\\\"tcp\\\",\\\"src_selector\\\":\\\"role == 'client'\\\"}],\\\"order\\\":100,\\\"outbound_rules\\\":[{\\\"action\\\":\\\"allow\\\"}],\\\"selector\\\":\\\"app == 'web'\\\",\\\"types\\\":[\\\"ingress\\\",\\\"egress\\\"]}\"},{\"key\":\"/calico/v1/policy/profile/kns.default/labels\",\"type\":\"new\",\"value\":\"{\\\"pcns.name\\\":\\\"default\\\"}\"},{\"key\":\"/calico/v1/ipam/v4/pool/10.244.0.0-16\",\"type\":\"new\",\"value\":\"{\\\"cidr\\\":\\\"10.244.0.0/16\\\",\\\"masquerade\\\":true}\"}],\"m\":\"kvs\"}",
+    "{\"m\":\"status\",\"status\":\"in-sync\"}",
+    "{\"m\":\"crumb\",\"n\":2}",
+    "{\"kvs\":[{\"key\":\"/calico/v1/host/node-1/workload/k8s/default%2fweb-1/endpoint/eth0\",\"type\":\"deleted\"},{\"key\":\"/calico/v1/host/node-2/workload/k8s/default%2fweb-1/endpoint/eth0\",\"type\":\"new\",\"value\":\"{\\\"ipv4_nets\\\":[\\\"10.244.2.7/32\\\"],\\\"labels\\\":{\\\"app\\\":\\\"web\\\"},\\\"mac\\\":\\\"ee:ee:ee:ee:ee:ee\\\",\\\"name\\\":\\\"cali0a1b2c3d4e5\\\",\\\"profile_ids\\\":[\\\"kns.default\\\"],\\\"state\\\":\\\"active\\\"}\"}],\"m\":\"kvs\"}",
+    "{\"m\":\"crumb\",\"n\":3}",
+    "{\"kvs\":[{\"key\":\"/calico/v1/host/node-2/workload/k8s/default%2fweb-1/endpoint/eth0\",\"type\":\"deleted\"}],\"m\":\"kvs\"}",
+    "{\"m\":\"crumb\",\"n\":4}",
+];
+
+fn framed(alloc: Global, bodies: &[&str]) -> Result<Vec<u8>, Fail> {
+    let mut out = Vec::new(alloc);
+    for body in bodies {
+        out.extend_from_slice(&[
+            0,
+            0,
+            (body.len() / 256 % 256) as u8,
+            (body.len() % 256) as u8,
+        ])?;
+        out.extend_from_slice(body.as_bytes())?;
+    }
+    Ok(out)
+}
+
+// What follows from bytes in pieces of a size, where these calls of the source and the sink fail.
+fn followed(
+    alloc: Global,
+    brief: bool,
+    bytes: &[u8],
+    size: usize,
+    source_fails: Vec<u64>,
+    sink_fails: Vec<u64>,
+) -> Result<(Vec<u8>, Result<(), FollowFault>), Fail> {
+    let mut pieces = Vec::new(alloc);
+    for piece in bytes.chunks(size.max(1)) {
+        pieces.push(piece.to_vec(alloc)?)?;
+    }
+    let mut source = MemSource::new(alloc, pieces, source_fails)?;
+    let mut sink = MemSink::new(alloc, 65_536, sink_fails)?;
+    let result = follow(alloc, brief, &mut source, &mut sink);
+    Ok((sink.given().to_vec(alloc)?, result))
+}
+
+fn whole(
+    alloc: Global,
+    brief: bool,
+    bytes: &[u8],
+    size: usize,
+) -> Result<(Vec<u8>, Result<(), FollowFault>), Fail> {
+    followed(alloc, brief, bytes, size, Vec::new(alloc), Vec::new(alloc))
+}
+
+#[test]
+fn text_of_each_crumb_end(rt: HostRuntime) -> Result<(), Fail> {
+    let alloc = rt.alloc();
+    let first = "at 0 wait-for-ready 0\n";
+    let both = "at 0 wait-for-ready 0\nat 1 in-sync 1\n";
+    let pairs =
+        "at 0 wait-for-ready 0\nat 1 in-sync 1\n{\"key\":\"/calico/v1/Ready\",\"value\":\"true\"}\n";
+    let not_rising = StreamFault::NotRising {
+        frame: 4,
+        had: 3,
+        found: 3,
+    };
+    let too_long = WireFault::TooLong {
+        frame: 1,
+        len: 8_388_609,
+    };
+    let cut = READY.split_at(READY.len().min(240)).0;
+    for (brief, bytes, text, result) in [
+        (false, READY.to_vec(alloc)?, pairs, Ok(())),
+        (true, READY.to_vec(alloc)?, both, Ok(())),
+        (
+            false,
+            cut.to_vec(alloc)?,
+            first,
+            Err(FollowFault::Cut { left: 22 }),
+        ),
+        (false, Vec::new(alloc), "", Ok(())),
+        (
+            false,
+            b"\x00\x80\x00\x01".to_vec(alloc)?,
+            "",
+            Err(FollowFault::Stream(StreamFault::Wire(too_long))),
+        ),
+        (
+            false,
+            framed(alloc, &[HELLO, RESYNC, CRUMB_3, CRUMB_3])?,
+            "at 3 resync 0\n",
+            Err(FollowFault::Stream(not_rising)),
+        ),
+        (
+            false,
+            framed(alloc, &[HELLO, CRUMB_3, CRUMB_3])?,
+            "",
+            Err(FollowFault::Stream(StreamFault::Order { frame: 2 })),
+        ),
+        (
+            false,
+            framed(alloc, &[HELLO, RESYNC, NEW_A])?,
+            "",
+            Err(FollowFault::Stream(StreamFault::Order { frame: 3 })),
+        ),
+        (
+            false,
+            framed(alloc, &[HELLO, NEW_A, NEW_B, NO_A, RESYNC, CRUMB_3])?,
+            "at 3 resync 1\n{\"key\":\"b\",\"value\":\"2\"}\n",
+            Ok(()),
+        ),
+    ] {
+        for size in [1usize, 7, 65_536] {
+            let (given, came) = whole(alloc, brief, &bytes, size)?;
+            assert_eq!(rt; given.as_slice(), text.as_bytes());
+            assert_eq!(rt; came, result);
+        }
+    }
+    Ok(())
+}
+
+#[test]
+fn a_realistic_stream_in_any_pieces(rt: HostRuntime) -> Result<(), Fail> {
+    let alloc = rt.alloc();
+    let bytes = framed(alloc, &REALISTIC)?;
+    assert_eq!(rt; bytes.len(), 1941);
+    let text =
+        "at 0 wait-for-ready 0\nat 1 resync 0\nat 2 in-sync 8\nat 3 in-sync 8\nat 4 in-sync 7\n";
+    for size in [1usize, 1000, 65_536] {
+        let (given, came) = whole(alloc, true, &bytes, size)?;
+        assert_eq!(rt; given.as_slice(), text.as_bytes());
+        assert_eq!(rt; came, Ok(()));
+    }
+    let (one, _) = whole(alloc, false, &bytes, 1)?;
+    let (all, _) = whole(alloc, false, &bytes, 65_536)?;
+    assert_eq!(rt; one.as_slice(), all.as_slice());
+    Ok(())
+}
+
+#[test]
+fn an_end_inside_a_frame_is_cut(rt: HostRuntime) -> Result<(), Fail> {
+    let alloc = rt.alloc();
+    let mut frame_end = 0usize;
+    for len in 0..READY.len() {
+        if READY_ENDS.contains(&len) {
+            frame_end = len;
+        }
+        let wanted = match len.saturating_sub(frame_end) {
+            0 => Ok(()),
+            left => Err(FollowFault::Cut { left: left as u64 }),
+        };
+        let (_, came) = whole(alloc, true, READY.split_at(len).0, 100)?;
+        assert_eq!(rt; came, wanted);
+    }
+    Ok(())
+}
+
+#[test]
+fn a_source_or_a_sink_fails_at_each_call(rt: HostRuntime) -> Result<(), Fail> {
+    let alloc = rt.alloc();
+    let (text, _) = whole(alloc, false, READY, 100)?;
+    for call in 1..5u64 {
+        let fails = vec![in alloc; call]?;
+        let (given, came) = followed(alloc, false, READY, 100, fails, Vec::new(alloc))?;
+        assert!(rt; text.starts_with(&given));
+        assert_eq!(rt; came, Err(FollowFault::Read));
+    }
+    for call in 1..3u64 {
+        let fails = vec![in alloc; call]?;
+        let (given, came) = followed(alloc, false, READY, 100, Vec::new(alloc), fails)?;
+        assert!(rt; text.starts_with(&given));
+        assert_eq!(rt; came, Err(FollowFault::Write));
+    }
+    Ok(())
+}
+
+#[test]
+fn one_connection_after_another(rt: HostRuntime) -> Result<(), Fail> {
+    let alloc = rt.alloc();
+    let mut rebuild = Rebuild::new(alloc);
+    assert!(rt; rebuild.held().is_none());
+    let host = Text::of(alloc, "n1")?;
+    rebuild.hello(alloc, &host)?;
+    let hello = framed(
+        alloc,
+        &["{\"host\":\"n1\",\"m\":\"client_hello\",\"version\":1}"],
+    )?;
+    assert_eq!(rt; rebuild.up(), hello.as_slice());
+    rebuild.up_given(rebuild.up().len().min(3));
+    assert_eq!(rt; rebuild.up().len(), 45);
+    let first = framed(
+        alloc,
+        &[
+            HELLO,
+            NEW_A,
+            RESYNC,
+            CRUMB_3,
+            "{\"m\":\"ping\",\"ts\":7}",
+            NEW_B,
+        ],
+    )?;
+    let heard = rebuild.feed(alloc, &first)?;
+    assert_eq!(rt; heard.ats.len(), 1);
+    assert!(rt; heard.fault.is_none());
+    let pong = framed(alloc, &["{\"m\":\"pong\",\"ts\":7}"])?;
+    assert!(rt; rebuild.up().ends_with(&pong));
+    rebuild.feed(alloc, b"\x00\x00")?;
+    assert_eq!(rt; rebuild.left(), 2);
+    rebuild.lost();
+    assert!(rt; rebuild.up().is_empty());
+    assert_eq!(rt; rebuild.held().map(|at| at.pairs.len()), Some(1));
+    let second = framed(alloc, &[HELLO, NEW_B, RESYNC, CRUMB_3])?;
+    rebuild.feed(alloc, &second)?;
+    assert_eq!(rt; rebuild.held().map(|at| at.pairs.len()), Some(1));
+    let later = rebuild.feed(alloc, &second)?;
+    assert_eq!(rt; later.fault, Some(StreamFault::Order { frame: 5 }));
+    let again = rebuild.feed(alloc, &second)?;
+    assert_eq!(rt; again.fault, Some(StreamFault::Order { frame: 5 }));
+    assert!(rt; again.ats.is_empty());
+    Ok(())
+}

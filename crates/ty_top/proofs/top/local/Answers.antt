@@ -1,0 +1,8 @@
+use Rattle.ty_top.proofs.Ends.{followed_only, cut_only}
+use Rattle.ty_top.proofs.top.local.Goals as goal
+
+pub returns-clause-followed : goal.returns-clause-followed
+returns-clause-followed g c = λ brief e s. followed_only brief c.run-ending.result _ _ c.status.result (c.run-ending.ensures.follows brief e) c.status.ensures.exact s
+
+pub returns-clause-cut : goal.returns-clause-cut
+returns-clause-cut g c = λ brief e s. cut_only brief c.run-ending.result _ _ c.status.result (c.run-ending.ensures.follows brief e) c.status.ensures.exact s
