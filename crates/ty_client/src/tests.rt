@@ -82,70 +82,77 @@ fn whole(
     followed(alloc, brief, bytes, size, Vec::new(alloc), Vec::new(alloc))
 }
 
+// Whether the bytes, in large and small pieces, bring this text and come to this.
+fn comes_to(
+    alloc: Global,
+    brief: bool,
+    bytes: &[u8],
+    text: &str,
+    wanted: Result<(), FollowFault>,
+) -> Result<bool, Fail> {
+    let mut good = true;
+    for size in [1usize, 7, 65_536] {
+        let (given, came) = whole(alloc, brief, bytes, size)?;
+        good = good && given.as_slice() == text.as_bytes() && came == wanted;
+    }
+    Ok(good)
+}
+
+// The same, for the frames of bodies.
+fn bodies_come_to(
+    alloc: Global,
+    bodies: &[&str],
+    text: &str,
+    wanted: Result<(), FollowFault>,
+) -> Result<bool, Fail> {
+    let bytes = framed(alloc, bodies)?;
+    comes_to(alloc, false, &bytes, text, wanted)
+}
+
 #[test]
 fn text_of_each_crumb_end(rt: HostRuntime) -> Result<(), Fail> {
     let alloc = rt.alloc();
-    let first = "at 0 wait-for-ready 0\n";
     let both = "at 0 wait-for-ready 0\nat 1 in-sync 1\n";
     let pairs =
         "at 0 wait-for-ready 0\nat 1 in-sync 1\n{\"key\":\"/calico/v1/Ready\",\"value\":\"true\"}\n";
-    let not_rising = StreamFault::NotRising {
-        frame: 4,
-        had: 3,
-        found: 3,
-    };
-    let too_long = WireFault::TooLong {
+    assert!(rt; comes_to(alloc, false, READY, pairs, Ok(()))?);
+    assert!(rt; comes_to(alloc, true, READY, both, Ok(()))?);
+    assert!(rt; comes_to(alloc, false, b"", "", Ok(()))?);
+    let changed = &[HELLO, NEW_A, NEW_B, NO_A, RESYNC, CRUMB_3];
+    let text = "at 3 resync 1\n{\"key\":\"b\",\"value\":\"2\"}\n";
+    assert!(rt; bodies_come_to(alloc, changed, text, Ok(()))?);
+    Ok(())
+}
+
+#[test]
+fn faults_of_the_wire(rt: HostRuntime) -> Result<(), Fail> {
+    let alloc = rt.alloc();
+    let cut = READY.split_at(READY.len().min(240)).0;
+    let left = Err(FollowFault::Cut { left: 22 });
+    assert!(rt; comes_to(alloc, false, cut, "at 0 wait-for-ready 0\n", left)?);
+    let long = WireFault::TooLong {
         frame: 1,
         len: 8_388_609,
     };
-    let cut = READY.split_at(READY.len().min(240)).0;
-    for (brief, bytes, text, result) in [
-        (false, READY.to_vec(alloc)?, pairs, Ok(())),
-        (true, READY.to_vec(alloc)?, both, Ok(())),
-        (
-            false,
-            cut.to_vec(alloc)?,
-            first,
-            Err(FollowFault::Cut { left: 22 }),
-        ),
-        (false, Vec::new(alloc), "", Ok(())),
-        (
-            false,
-            b"\x00\x80\x00\x01".to_vec(alloc)?,
-            "",
-            Err(FollowFault::Stream(StreamFault::Wire(too_long))),
-        ),
-        (
-            false,
-            framed(alloc, &[HELLO, RESYNC, CRUMB_3, CRUMB_3])?,
-            "at 3 resync 0\n",
-            Err(FollowFault::Stream(not_rising)),
-        ),
-        (
-            false,
-            framed(alloc, &[HELLO, CRUMB_3, CRUMB_3])?,
-            "",
-            Err(FollowFault::Stream(StreamFault::Order { frame: 2 })),
-        ),
-        (
-            false,
-            framed(alloc, &[HELLO, RESYNC, NEW_A])?,
-            "",
-            Err(FollowFault::Stream(StreamFault::Order { frame: 3 })),
-        ),
-        (
-            false,
-            framed(alloc, &[HELLO, NEW_A, NEW_B, NO_A, RESYNC, CRUMB_3])?,
-            "at 3 resync 1\n{\"key\":\"b\",\"value\":\"2\"}\n",
-            Ok(()),
-        ),
-    ] {
-        for size in [1usize, 7, 65_536] {
-            let (given, came) = whole(alloc, brief, &bytes, size)?;
-            assert_eq!(rt; given.as_slice(), text.as_bytes());
-            assert_eq!(rt; came, result);
-        }
-    }
+    let fault = Err(FollowFault::Stream(StreamFault::Wire(long)));
+    assert!(rt; comes_to(alloc, false, b"\x00\x80\x00\x01", "", fault)?);
+    Ok(())
+}
+
+#[test]
+fn messages_out_of_their_places(rt: HostRuntime) -> Result<(), Fail> {
+    let alloc = rt.alloc();
+    let again = Err(FollowFault::Stream(StreamFault::NotRising {
+        frame: 4,
+        had: 3,
+        found: 3,
+    }));
+    let twice = &[HELLO, RESYNC, CRUMB_3, CRUMB_3];
+    assert!(rt; bodies_come_to(alloc, twice, "at 3 resync 0\n", again)?);
+    let second = Err(FollowFault::Stream(StreamFault::Order { frame: 2 }));
+    assert!(rt; bodies_come_to(alloc, &[HELLO, CRUMB_3, CRUMB_3], "", second)?);
+    let third = Err(FollowFault::Stream(StreamFault::Order { frame: 3 }));
+    assert!(rt; bodies_come_to(alloc, &[HELLO, RESYNC, NEW_A], "", third)?);
     Ok(())
 }
 
@@ -204,48 +211,58 @@ fn a_source_or_a_sink_fails_at_each_call(rt: HostRuntime) -> Result<(), Fail> {
     Ok(())
 }
 
+// Feeds the frames of bodies, and tells how many crumb ends they brought, and their fault.
+fn fed(
+    alloc: Global,
+    rebuild: &mut Rebuild,
+    bodies: &[&str],
+) -> Result<(usize, Option<StreamFault>), Fail> {
+    let bytes = framed(alloc, bodies)?;
+    let heard = rebuild.feed(alloc, &bytes)?;
+    Ok((heard.ats.len(), heard.fault))
+}
+
+// How many pairs are held.
+fn held(rebuild: &Rebuild) -> Option<usize> {
+    rebuild.held().map(|at| at.pairs.len())
+}
+
 #[test]
-fn one_connection_after_another(rt: HostRuntime) -> Result<(), Fail> {
+fn a_hello_and_a_pong_go_up(rt: HostRuntime) -> Result<(), Fail> {
     let alloc = rt.alloc();
     let mut rebuild = Rebuild::new(alloc);
-    assert!(rt; rebuild.held().is_none());
     let host = Text::of(alloc, "n1")?;
     rebuild.hello(alloc, &host)?;
     let hello = framed(
         alloc,
         &["{\"host\":\"n1\",\"m\":\"client_hello\",\"version\":1}"],
     )?;
-    assert_eq!(rt; rebuild.up(), hello.as_slice());
+    assert!(rt; rebuild.up() == hello.as_slice());
     rebuild.up_given(rebuild.up().len().min(3));
     assert_eq!(rt; rebuild.up().len(), 45);
-    let first = framed(
-        alloc,
-        &[
-            HELLO,
-            NEW_A,
-            RESYNC,
-            CRUMB_3,
-            "{\"m\":\"ping\",\"ts\":7}",
-            NEW_B,
-        ],
-    )?;
-    let heard = rebuild.feed(alloc, &first)?;
-    assert_eq!(rt; heard.ats.len(), 1);
-    assert!(rt; heard.fault.is_none());
+    let ping = &[HELLO, RESYNC, CRUMB_3, "{\"m\":\"ping\",\"ts\":7}"];
+    assert_eq!(rt; fed(alloc, &mut rebuild, ping)?, (1, None));
     let pong = framed(alloc, &["{\"m\":\"pong\",\"ts\":7}"])?;
     assert!(rt; rebuild.up().ends_with(&pong));
+    Ok(())
+}
+
+#[test]
+fn one_connection_after_another(rt: HostRuntime) -> Result<(), Fail> {
+    let alloc = rt.alloc();
+    let mut rebuild = Rebuild::new(alloc);
+    assert_eq!(rt; held(&rebuild), None);
+    let first = &[HELLO, NEW_A, RESYNC, CRUMB_3, NEW_B];
+    assert_eq!(rt; fed(alloc, &mut rebuild, first)?, (1, None));
     rebuild.feed(alloc, b"\x00\x00")?;
     assert_eq!(rt; rebuild.left(), 2);
     rebuild.lost();
-    assert!(rt; rebuild.up().is_empty());
-    assert_eq!(rt; rebuild.held().map(|at| at.pairs.len()), Some(1));
-    let second = framed(alloc, &[HELLO, NEW_B, RESYNC, CRUMB_3])?;
-    rebuild.feed(alloc, &second)?;
-    assert_eq!(rt; rebuild.held().map(|at| at.pairs.len()), Some(1));
-    let later = rebuild.feed(alloc, &second)?;
-    assert_eq!(rt; later.fault, Some(StreamFault::Order { frame: 5 }));
-    let again = rebuild.feed(alloc, &second)?;
-    assert_eq!(rt; again.fault, Some(StreamFault::Order { frame: 5 }));
-    assert!(rt; again.ats.is_empty());
+    assert_eq!(rt; held(&rebuild), Some(1));
+    let second = &[HELLO, NEW_B, RESYNC, CRUMB_3];
+    assert_eq!(rt; fed(alloc, &mut rebuild, second)?, (1, None));
+    assert_eq!(rt; held(&rebuild), Some(1));
+    let fault = Some(StreamFault::Order { frame: 5 });
+    assert_eq!(rt; fed(alloc, &mut rebuild, second)?, (0, fault));
+    assert_eq!(rt; fed(alloc, &mut rebuild, second)?, (0, fault));
     Ok(())
 }
