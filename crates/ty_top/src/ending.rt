@@ -37,6 +37,7 @@ pub(crate) enum Ending {
 }
 
 impl Ending {
+    /// The exit status of a run that ends so.
     pub fn status(self) -> u8
         ensures exact { result ≡ status_of self }
         ensures of_fault { (fault : Fault) → self ≡ Ending.Fault fault → (result ≡ 6) ⊎ (result ≡ 8) }
