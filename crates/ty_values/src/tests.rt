@@ -49,6 +49,18 @@ const V3_POOL: &str = "/calico/resources/v3/projectcalico.org/ippools/default";
 
 const NODE: &str = "/calico/resources/v3/projectcalico.org/nodes/node-1";
 
+const NETWORK_SET: &str = "/calico/resources/v3/projectcalico.org/networksets/prod/partners";
+
+const BGP: &str = "/calico/resources/v3/projectcalico.org/bgpconfigurations/default";
+
+const BGP_PEER: &str = "/calico/resources/v3/projectcalico.org/bgppeers/rack-1";
+
+const FELIX: &str = "/calico/resources/v3/projectcalico.org/felixconfigurations/default";
+
+const CLUSTER: &str = "/calico/resources/v3/projectcalico.org/clusterinformations/default";
+
+const V3_WORKLOAD: &str = "/calico/resources/v3/projectcalico.org/workloadendpoints/prod/web-eth0";
+
 // The first broken rule, where the key reads.
 fn broken(rt: &impl Abort, alloc: Global, key: &str, value: &str) -> Option<Rule> {
     let key = Key::read(alloc, key.as_bytes()).expect(rt, "a key");
@@ -63,7 +75,7 @@ fn broken(rt: &impl Abort, alloc: Global, key: &str, value: &str) -> Option<Rule
     }
 }
 
-const VALID: [(&str, &str); 24] = [
+const VALID: [(&str, &str); 30] = [
     (READY, "true"),
     (CONFIG, r#""Info""#),
     (HOST_CONFIG, r#""cali""#),
@@ -135,6 +147,32 @@ const VALID: [(&str, &str); 24] = [
     ),
     (V3_POOL, r#"{"spec":{"cidr":"fd00::/48","blockSize":116}}"#),
     (NODE, r#"{"kind":"Node","spec":{"bgp":{"asNumber":64512}}}"#),
+    (
+        NETWORK_SET,
+        r#"{"apiVersion":"projectcalico.org/v3","kind":"NetworkSet",
+        "metadata":{"name":"partners","namespace":"prod","labels":{"role":"partner"}},
+        "spec":{"nets":["198.51.100.0/24","2001:db8::/32"]}}"#,
+    ),
+    (
+        BGP,
+        r#"{"kind":"BGPConfiguration","metadata":{"name":"default"},"spec":{"asNumber":64512,"nodeToNodeMeshEnabled":true}}"#,
+    ),
+    (
+        BGP_PEER,
+        r#"{"kind":"BGPPeer","spec":{"asNumber":64513,"peerIP":"192.0.2.1"}}"#,
+    ),
+    (
+        FELIX,
+        r#"{"kind":"FelixConfiguration","spec":{"logSeverityScreen":"Info","reportingInterval":"0s"}}"#,
+    ),
+    (
+        CLUSTER,
+        r#"{"kind":"ClusterInformation","spec":{"calicoVersion":"v3.30.0","datastoreReady":true}}"#,
+    ),
+    (
+        V3_WORKLOAD,
+        r#"{"kind":"WorkloadEndpoint","metadata":{"name":"web-eth0","namespace":"prod"},"spec":{"node":"node-1"}}"#,
+    ),
 ];
 
 const BROKEN: [(&str, &str, Rule); 58] = [
