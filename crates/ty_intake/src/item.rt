@@ -16,7 +16,7 @@ const LINE_LIMIT: usize = 8_388_608;
 // The most bytes of a value's compact text.
 const VALUE_LIMIT: usize = 8_192;
 
-// The item of a line, or none where the line is bad.
+/// The item of a line, or none where the line is bad.
 #[tactic(auto, unfolding(crate::specs::Items::item_of))]
 pub fn line_item(alloc: Global, line: &[u8]) -> Result<Option<Item>, NoMemory>
     ensures { IfOk result (λ item. item ≡ item_of line.now) }

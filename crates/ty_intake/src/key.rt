@@ -3,14 +3,14 @@ ghost use Rattle.std.specs.Prelude.{◌≡◌, option_map};
 ghost use Rattle.std.specs.List.{list_all};
 ghost use Rattle.ty_intake.specs.Items.{is_ready as ready, is_config as config, is_name as name, is_name_byte as name_byte, rest_after as after};
 
-// Whether a key is that of the datastore's readiness.
+/// Whether a key is that of the datastore's readiness.
 pub fn is_ready(key: &str) -> bool
     ensures { result ≡ ready key.now }
 {
     key == "/calico/v1/Ready"
 }
 
-// Whether a key is that of a setting, `/calico/v1/config/` and a name.
+/// Whether a key is that of a setting, `/calico/v1/config/` and a name.
 #[tactic(auto, unfolding(crate::specs::Items::is_config))]
 pub fn is_config(key: &str) -> bool
     ensures { result ≡ config key.now }

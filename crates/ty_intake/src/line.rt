@@ -4,7 +4,7 @@ ghost use Rattle.ty_intake.specs.Lines.{lines, is_space as space, is_blank as bl
 
 use memchr::memchr;
 
-// The first line, without the line feed that ends it, and what follows it.
+/// The first line, without the line feed that ends it, and what follows it.
 pub fn split_line(feed: &[u8]) -> (&[u8], &[u8])
     requires { 0 < length feed.now }
     ensures lines { lines feed.now ≡ result.0.now ∷ lines result.1.now }
@@ -16,7 +16,7 @@ pub fn split_line(feed: &[u8]) -> (&[u8], &[u8])
     }
 }
 
-// Whether a line has nothing but spaces, tabs and carriage returns.
+/// Whether a line has nothing but spaces, tabs and carriage returns.
 pub fn is_blank(line: &[u8]) -> bool
     ensures { result ≡ blank line.now }
 {

@@ -17,7 +17,7 @@ pub fn cuts(alloc: Global, items: &[Item], ended: bool) -> Result<Vec<usize>, No
     cuts_among(alloc, items, &closings)
 }
 
-// The cuts among positions that never fall.
+/// The cuts among positions that never fall.
 #[tactic(auto, unfolding(ty_base::specs::Feed::cuts_after))]
 pub fn cuts_among(alloc: Global, items: &[Item], closings: &[usize]) -> Result<Vec<usize>, NoMemory>
     requires { IsRising 0 (length items.now) closings.now }

@@ -12,6 +12,7 @@ use ty_rules::{
     Profiles, Required, Row, Rule, Test, TextOf, TextTest, ValueFault, all_of, table,
 };
 
+/// The first rule that a host endpoint's value breaks.
 pub fn check_host_endpoint(alloc: Global, value: &Value) -> Result<(), ValueFault>
     ensures { Tells result (host_endpoint (view value.now)) }
 {
@@ -43,6 +44,7 @@ impl TextTest for State {
     }
 }
 
+/// The first rule that a workload endpoint's value breaks.
 pub fn check_workload(alloc: Global, value: &Value) -> Result<(), ValueFault>
     ensures { Tells result (workload (view value.now)) }
 {

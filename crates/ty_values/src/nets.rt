@@ -6,12 +6,14 @@ use serde_json::Value;
 use ty_net::{Cidr, Ip, read_cidr, read_ip, read_ports};
 use ty_rules::{ArrayOf, PortName, Test, TextOf, TextTest, WholeWithin};
 
+/// Whether an address is one of IPv4.
 pub fn is_v4(ip: Ip) -> bool
     ensures { result ≡ is_v4 ip }
 {
     matches!(ip, Ip::V4(_))
 }
 
+/// Whether an address is one of IPv6.
 pub fn is_v6(ip: Ip) -> bool
     ensures { result ≡ is_v6 ip }
 {

@@ -25,6 +25,7 @@ impl TextTest for Direction {
     }
 }
 
+/// The first rule that a policy's value breaks.
 pub fn check_policy(alloc: Global, value: &Value) -> Result<(), ValueFault>
     ensures { Tells result (policy (view value.now)) }
 {
@@ -39,6 +40,7 @@ pub fn check_policy(alloc: Global, value: &Value) -> Result<(), ValueFault>
     .check(alloc, value)
 }
 
+/// The first rule that the value of a profile's rules breaks.
 pub fn check_profile_rules(alloc: Global, value: &Value) -> Result<(), ValueFault>
     ensures { Tells result (profile_rules (view value.now)) }
 {
@@ -50,6 +52,7 @@ pub fn check_profile_rules(alloc: Global, value: &Value) -> Result<(), ValueFaul
     .check(alloc, value)
 }
 
+/// The first rule that a network set's value breaks.
 pub fn check_network_set(alloc: Global, value: &Value) -> Result<(), ValueFault>
     ensures { Tells result (network_set (view value.now)) }
 {

@@ -58,6 +58,7 @@ impl TextTest for NetOfKey<'_> {
     }
 }
 
+/// The first rule that a pool's value breaks, under the network of its key.
 pub fn check_pool(
     alloc: Global,
     v6: bool,
@@ -108,6 +109,7 @@ impl Test for InNamespace<'_> {
     }
 }
 
+/// The first rule that a resource's value breaks, under the kind, namespace and name of its key.
 pub fn check_resource(
     alloc: Global,
     plural: &Text,
