@@ -1,4 +1,5 @@
--- A balanced tree is low: 2 to its height is at most the square of one more than its pairs.
+-- A balanced tree is low: 2 to its height is at most the square of one more than its pairs; and no lower than it must be:
+-- its pairs are fewer than 2 to its height.
 use Rattle.std.proofs.Common.{◌≡◌, ℕ, ◌+◌, ◌*◌, ◌^◌, ◌≤◌, ◌<◌, List, [], ◌∷◌, ◌++◌, length, max, refl, sym, ap, subst, ◌∙◌, inl, inr, arith, length-append, pow_mono, pow-add}
 use Rattle.std.proofs.Math.Nat.{mul_comm, add-mul, pow-suc, pow-zero}
 use Rattle.std.proofs.lemmas.Nat.{mul-le}
@@ -53,6 +54,18 @@ balanced_is_low (Fork l e r h) b =
     subst (λ n. 2 ^ h ≤ (n + 1) ^ 2) (sym counted)
     (subst (λ x. 2 ^ x ≤ (length (pairs l) + (1 + length (pairs r)) + 1) ^ 2) (sym b.2)
     (node_is_low (height l) (height r) (length (pairs l)) (length (pairs r)) b.3 (balanced_is_low l b.0) (balanced_is_low r b.1)))
+
+pub balanced_is_no_lower : (t : Shape) → IsBalanced t → length (pairs t) + 1 ≤ 2 ^ height t
+balanced_is_no_lower Empty b = omega arith
+balanced_is_no_lower (Fork l e r h) b =
+    let counted : length (pairs l ++ e ∷ pairs r) ≡ length (pairs l) + (1 + length (pairs r)) = omega (arith, length-append (pairs l) (e ∷ pairs r)) in
+    let top : 2 ^ (max (height l) (height r) + 1) ≡ 2 ^ max (height l) (height r) * 2 = pow-add 2 (max (height l) (height r)) 1 in
+    let on_left : 2 ^ height l ≤ 2 ^ max (height l) (height r) = pow_mono (omega arith) in
+    let on_right : 2 ^ height r ≤ 2 ^ max (height l) (height r) = pow_mono (omega arith) in
+    let few : length (pairs l) + 1 ≤ 2 ^ height l = balanced_is_no_lower l b.0 in
+    let few_too : length (pairs r) + 1 ≤ 2 ^ height r = balanced_is_no_lower r b.1 in
+    subst (λ n. n + 1 ≤ 2 ^ h) (sym counted)
+    (subst (λ x. length (pairs l) + (1 + length (pairs r)) + 1 ≤ 2 ^ x) (sym b.2) (omega (arith, top, on_left, on_right, few, few_too)))
 
 pub root_is_balanced : (r : Root) → IsAvl r → IsBalanced (shape_of r)
 root_is_balanced Leaf g = tt

@@ -106,9 +106,10 @@ impl Pairs {
         &self.tree
     }
 
-    /// How high that tree is, in nodes.
+    /// How high that tree is, in nodes: no higher than its balance asks, and no lower than its pairs do.
     pub fn height(&self) -> u64
-        ensures { 2 ^ result ≤ (length self.now + 1) ^ 2 }
+        ensures low { 2 ^ result ≤ (length self.now + 1) ^ 2 }
+        ensures high { length self.now + 1 ≤ 2 ^ result }
     {
         self.tree.height()
     }

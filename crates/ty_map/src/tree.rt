@@ -92,6 +92,7 @@ impl Tree {
     pub fn height(&self) -> u64
         ensures value { result ≡ height self.now }
         ensures low { 2 ^ result ≤ (length (pairs self.now) + 1) ^ 2 }
+        ensures high { length (pairs self.now) + 1 ≤ 2 ^ result }
     {
         match &self.root {
             Root::Leaf => 0,
