@@ -4,3 +4,5 @@ pub mod Progress
 pub mod Connections
 pub mod Printed
 pub mod Followed
+pub mod Snapshots
+pub mod Talks

@@ -8,3 +8,4 @@ pub mod Steps
 pub mod Giving
 pub mod Following
 pub mod Pieces
+pub mod Worlds
