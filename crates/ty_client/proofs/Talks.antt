@@ -1,11 +1,11 @@
 -- The messages of a talk are in their places, and what they rebuild at each crumb end is the world of its number.
-use Rattle.std.proofs.Common.{◌≡◌, ℕ, zero, suc, ◌+◌, ◌-◌, ◌^◌, ◌<◌, ◌≤◌, ◌==◌, Bool, true, false, cond, List, [], ◌∷◌, ◌++◌, length, take, drop, map, flat_map, refl, sym, ap, subst, ◌∙◌, arith, append_assoc, append-nil, length-append, lt-ltb, ne_eqb}
-use Rattle.std.specs.Prelude.{Option, None, Some, unwrap_or, nat_lt, if◌then◌else◌}
+use Rattle.std.proofs.Common.{◌≡◌, ℕ, ◌+◌, ◌-◌, ◌^◌, ◌<◌, ◌≤◌, Bool, true, false, cond, List, [], ◌∷◌, ◌++◌, length, map, flat_map, refl, sym, ap, subst, ◌∙◌, arith, append_assoc, append-nil, length-append, lt-ltb, ne_eqb}
+use Rattle.std.specs.Prelude.{Option, None, Some, unwrap_or, if◌then◌else◌}
 use Rattle.std.specs.Option.{option_or}
 use Rattle.std.specs.List.{All, AllByRecursion, fold, filter}
 use Rattle.std.proofs.lemmas.List.Elements.{All-from_recursion}
 use Rattle.std.proofs.lemmas.List.Sums.{fold-append}
-use Rattle.ty_base.specs.Feed.{Pairs, World, changed, replay}
+use Rattle.ty_base.specs.Feed.{Pairs, World, changed}
 use Rattle.ty_base.specs.Statuses.{same_status}
 use Rattle.ty_base.proofs.Pairs.{same_statuses}
 use Rattle.ty_base.specs.declared.entry.Entry.{Entry}
@@ -13,13 +13,15 @@ use Rattle.ty_base.specs.declared.delta.Delta.{Delta}
 use Rattle.ty_base.specs.declared.status.Status.{Status}
 use Rattle.ty_base.specs.declared.status.Status.TheVariants.{Wait}
 use Rattle.ty_wire.specs.Cutting.{cut_deltas}
-use Rattle.ty_wire.specs.Talk.{kvs_messages, status_messages, group, snapshot, world_after, deltas_between, status_change, first_group, group_between, groups_after, opening, talk, is_no_ping, Rise, IsTalk}
+use Rattle.ty_wire.specs.Talk.{kvs_messages, status_messages, group, snapshot, world_after, deltas_between, status_change, first_group, groups_after, opening, talk, is_no_ping, Rise, IsTalk}
 use Rattle.ty_wire.specs.declared.message.Msg.{Msg}
 use Rattle.ty_wire.specs.declared.message.Msg.TheVariants.{ClientHello, ServerHello, Kvs, Status as StatusMsg, Crumb, Ping, Pong}
-use Rattle.ty_wire.specs.Wire.{IsWire, frames}
+use Rattle.ty_wire.specs.Wire.{IsWire, frame, frames}
 use Rattle.ty_wire.specs.Stream.{Reads, Begins}
 use Rattle.ty_wire.proofs.Parts.{joined}
 use Rattle.ty_wire.proofs.Back.{reads-whole, reads-front}
+use Rattle.ty_wire.proofs.Short.{server_hello-fits}
+use Rattle.ty_wire.proofs.Utf8.{is_wire}
 use Rattle.ty_client.specs.declared.fault.StreamFault.{StreamFault}
 use Rattle.ty_client.specs.Places.{later_fault, opening_fault, rising_fault, crumb_fault, fault_at, next_frame, latest, status_in, number_in, is_status, has_status, Judged, judged_by, judged_after, judged}
 use Rattle.ty_client.specs.Rebuilt.{Rebuilt, deltas_in, rebuilt_map, at_of, ats_after, ats}
@@ -272,18 +274,52 @@ hears bytes rest ms l r g = record {
   first = sym (ap (λ (j : Judged). option_or j.fault None) g);
 }
 
+-- a front of the messages, all of them in their places
+pub record Front (all : List Msg) (bytes : List ℕ) : Type 0 where
+  pub ms : List Msg
+  pub unheard : List Msg
+  pub whole : all ≡ ms ++ unheard
+  pub heard : Hears bytes ms None
+
+front_of : (all : List Msg) (bytes more : List ℕ) → (judged all).fault ≡ None → AllByRecursion IsWire all → length bytes < 2 ^ 40 → bytes ++ more ≡ frames all → Front all bytes
+front_of all bytes more good w l e =
+    let f : Begins bytes all = reads-front all bytes more w e in
+    record {
+      ms = f.read;
+      unheard = f.later;
+      whole = f.whole;
+      heard = hears bytes f.rest f.read l f.reads (good_front [] f.read f.later (ap (λ (x : List Msg). (judged x).fault) (sym f.whole) ∙ good));
+    }
+
 pub front_rebuilds : (es : List Entry) (e0 : ℕ) (ns : List ℕ) (all : List Msg) (bytes more : List ℕ) → Rise e0 ns (length es) → Rebuilds es e0 ns all → AllByRecursion IsWire all → length bytes < 2 ^ 40 → bytes ++ more ≡ frames all
     → (ms : List Msg) × Hears bytes ms None × IsRising (ats ms) × All (λ a. IsWorldOf es a) (ats ms)
 front_rebuilds es e0 ns all bytes more r b w l e =
-    let f : Begins bytes all = reads-front all bytes more w e in
-    let ms : List Msg = f.read in
-    let good : judged ms ≡ record { good = ms; fault = None } = good_front [] ms f.later (ap (λ (l : List Msg). (judged l).fault) (sym f.whole) ∙ ap (λ (j : Judged). j.fault) b.good) in
-    let split : map (rebuilt_after es) (e0 ∷ ns) ≡ ats ms ++ ats_after ms f.later = sym b.worlds ∙ ap ats f.whole ∙ ats_more [] ms f.later in (
-      ms,
-      hears bytes f.rest ms l f.reads good,
-      rising_front (ats ms) (ats_after ms f.later) (subst IsRising split (numbers_rise es e0 ns (length es) r)),
-      All-from_recursion _ _ (all_front (IsWorldOf es) (ats ms) (ats_after ms f.later) (subst (AllByRecursion (IsWorldOf es)) split (are_worlds es e0 ns r))),
+    let f : Front all bytes = front_of all bytes more (ap (λ (j : Judged). j.fault) b.good) w l e in
+    let later : List Rebuilt = ats_after f.ms f.unheard in
+    let split : map (rebuilt_after es) (e0 ∷ ns) ≡ ats f.ms ++ later = sym b.worlds ∙ ap ats f.whole ∙ ats_more [] f.ms f.unheard in (
+      f.ms,
+      f.heard,
+      rising_front (ats f.ms) later (subst IsRising split (numbers_rise es e0 ns (length es) r)),
+      All-from_recursion _ _ (all_front (IsWorldOf es) (ats f.ms) later (subst (AllByRecursion (IsWorldOf es)) split (are_worlds es e0 ns r))),
     )
 
 pub whole_rebuilds : (es : List Entry) (e0 : ℕ) (ns : List ℕ) (all : List Msg) → Rebuilds es e0 ns all → AllByRecursion IsWire all → length (frames all) < 2 ^ 40 → Hears (frames all) all None × (ats all ≡ map (rebuilt_after es) (e0 ∷ ns))
 whole_rebuilds es e0 ns all b w l = (hears (frames all) [] all l (reads-whole all w) b.good, b.worlds)
+
+-- the hello alone
+
+none_in_front : (xs ys : List Rebuilt) → xs ++ ys ≡ [] → xs ≡ []
+none_in_front [] ys e = refl
+none_in_front (x ∷ xs) ys e = absurd (omega (arith, ap length e))
+
+hello_good : (judged hello).fault ≡ None
+hello_good = ap (λ (j : Judged). j.fault) (judged_one [] (ServerHello 1) [] ∙ ap (judged_by None (ServerHello 1)) (judged_none hello))
+
+hello_rebuilds : ats hello ≡ []
+unfolding ats_after
+hello_rebuilds = refl
+
+pub hello_heard : (bytes more : List ℕ) → length bytes < 2 ^ 40 → bytes ++ more ≡ frame (ServerHello 1) → (ms : List Msg) × Hears bytes ms None × (ats ms ≡ [])
+hello_heard bytes more l e =
+    let f : Front hello bytes = front_of hello bytes more hello_good (is_wire (ServerHello 1) tt (server_hello-fits 1 (omega arith)), tt) l (e ∙ sym (append-nil (frame (ServerHello 1)))) in
+    (f.ms, f.heard, none_in_front (ats f.ms) (ats_after f.ms f.unheard) (sym (ats_more [] f.ms f.unheard) ∙ ap ats (sym f.whole) ∙ hello_rebuilds))

@@ -1,18 +1,19 @@
 // Laws of the definitions.
-ghost use Rattle.std.specs.Prelude.{◌≡◌, ◌<◌, ◌^◌, ◌++◌, ◌∷◌, List, ℕ, None, true, length, map};
+ghost use Rattle.std.specs.Prelude.{◌≡◌, ◌<◌, ◌^◌, ◌++◌, ◌∷◌, List, ℕ, [], None, true, length, map};
 ghost use Rattle.std.specs.List.{All, list_all};
 ghost use Rattle.ty_base.specs.declared.entry.Entry.{Entry};
 ghost use Rattle.ty_wire.specs.Limits.{entry_passes};
-ghost use Rattle.ty_wire.specs.Wire.{frames};
+ghost use Rattle.ty_wire.specs.Wire.{frame, frames};
 ghost use Rattle.ty_wire.specs.Talk.{talk, ping_fits, Rise, IsTalk};
 ghost use Rattle.ty_wire.specs.declared.message.Msg.{Msg};
+ghost use Rattle.ty_wire.specs.declared.message.Msg.TheVariants.{ServerHello};
 ghost use Rattle.ty_client.specs.Rebuilt.{ats};
 ghost use Rattle.ty_client.specs.Heard.{Hears};
 ghost use Rattle.ty_client.specs.Worlds.{IsRising, IsWorldOf, rebuilt_after};
 
 /// Each front of a talk over a list of entries reads without a fault, its crumb numbers rise, and what is rebuilt at
-/// each crumb end n has the map and status that the first n entries leave. So it is with pings, and the whole talk
-/// has a crumb end for each of its numbers.
+/// each crumb end n has the map and status that the first n entries leave. So it is with pings, the whole talk has a
+/// crumb end for each of its numbers, and a server hello alone reads and has none.
 pub fn talks_rebuild_worlds()
     ensures talk { (entries : List Entry) (e0 : ℕ) (numbers bytes more : List ℕ) → list_all entry_passes entries ≡ true → length entries < 2 ^ 64
         → Rise e0 numbers (length entries) → length bytes < 2 ^ 40 → bytes ++ more ≡ frames (talk entries e0 numbers)
@@ -23,4 +24,6 @@ pub fn talks_rebuild_worlds()
     ensures whole { (entries : List Entry) (e0 : ℕ) (numbers : List ℕ) (all : List Msg) → list_all entry_passes entries ≡ true → length entries < 2 ^ 64
         → IsTalk entries e0 numbers all → list_all ping_fits all ≡ true → length (frames all) < 2 ^ 40
         → Hears (frames all) all None × (ats all ≡ map (rebuilt_after entries) (e0 ∷ numbers)) }
+    ensures hello { (bytes more : List ℕ) → length bytes < 2 ^ 40 → bytes ++ more ≡ frame (ServerHello 1)
+        → (ms : List Msg) × Hears bytes ms None × (ats ms ≡ []) }
 {}
