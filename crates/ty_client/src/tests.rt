@@ -266,3 +266,79 @@ fn one_connection_after_another(rt: HostRuntime) -> Result<(), Fail> {
     assert_eq!(rt; fed(alloc, &mut rebuild, second)?, (0, fault));
     Ok(())
 }
+
+// What is wrong with a frame.
+#[derive(Clone, Copy)]
+enum Hurt {
+    // Its length is above the limit.
+    TooLong,
+    // Its body is no JSON.
+    NotJson,
+    // Its body has a space that no message's spelling has.
+    Spaced,
+    // Its message has no place at all.
+    Misplaced,
+}
+
+const HURTS: [Hurt; 4] = [Hurt::TooLong, Hurt::NotJson, Hurt::Spaced, Hurt::Misplaced];
+
+// The frame of a body with another beginning.
+fn begun(alloc: Global, start: &str, body: &str) -> Result<Vec<u8>, Fail> {
+    let mut text = String::new(alloc);
+    text.push_str(start)?;
+    text.push_str(body.strip_prefix("{").unwrap_or(body))?;
+    framed(alloc, &[&text])
+}
+
+fn hurt_frame(alloc: Global, body: &str, hurt: Hurt) -> Result<Vec<u8>, Fail> {
+    match hurt {
+        Hurt::TooLong => Ok(b"\x00\x80\x00\x01".to_vec(alloc)?),
+        Hurt::NotJson => begun(alloc, "}", body),
+        Hurt::Spaced => begun(alloc, "{ ", body),
+        Hurt::Misplaced => framed(alloc, &["{\"m\":\"pong\",\"ts\":1}"]),
+    }
+}
+
+fn fault_of(hurt: Hurt, frame: u64) -> StreamFault {
+    match hurt {
+        Hurt::TooLong => StreamFault::Wire(WireFault::TooLong {
+            frame,
+            len: 8_388_609,
+        }),
+        Hurt::NotJson => StreamFault::Wire(WireFault::NotJson { frame }),
+        Hurt::Spaced => StreamFault::Wire(WireFault::Shape { frame }),
+        Hurt::Misplaced => StreamFault::Order { frame },
+    }
+}
+
+// Whether bytes with a hurt frame behind good ones bring the text of the good ones, and name the hurt one.
+fn hurt_shows(
+    alloc: Global,
+    before: &[&str],
+    body: &str,
+    after: &[&str],
+    hurt: Hurt,
+) -> Result<bool, Fail> {
+    let mut bytes = framed(alloc, before)?;
+    let (text, _) = whole(alloc, false, &bytes, 65_536)?;
+    bytes.extend_from_slice(&hurt_frame(alloc, body, hurt)?)?;
+    bytes.extend_from_slice(&framed(alloc, after)?)?;
+    let (given, came) = whole(alloc, false, &bytes, 1000)?;
+    let fault = fault_of(hurt, (before.len() as u64).saturating_add(1));
+    Ok(given == text && came == Err(FollowFault::Stream(fault)))
+}
+
+#[test]
+fn each_hurt_frame_of_a_realistic_stream_is_named(rt: HostRuntime) -> Result<(), Fail> {
+    let alloc = rt.alloc();
+    for i in 0..REALISTIC.len() {
+        let (before, rest) = REALISTIC.split_at(i);
+        let Some((body, after)) = rest.split_first() else {
+            continue;
+        };
+        for hurt in HURTS {
+            assert!(rt; hurt_shows(alloc, before, body, after, hurt)?);
+        }
+    }
+    Ok(())
+}
