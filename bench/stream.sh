@@ -1,13 +1,14 @@
 #!/bin/sh
-# Measures the built program: `stream`, and `stream | follow --brief`, over a feed of 5,000 updates of 1,000 keys,
-# and as a peer `wc -l` over the same feed. Prints seconds, MB/s and peak memory, where /usr/bin/time tells it.
+# Measures the built program: `stream`, `follow --brief` and `stream | follow --brief`, over a feed of 100,000 updates
+# of 1,000 keys, and as a peer `wc -l` over the same feed in the same run. Prints seconds, MB/s of feed and, where
+# python3 is at hand, peak memory.
 set -eu
 top=$(CDPATH='' cd -- "$(dirname -- "$0")/.." && pwd)
 program=$top/crates/typha/out/typha
 [ -x "$program" ] || { echo "build the program first: ./typha stream </dev/null" >&2; exit 1; }
 work=$(mktemp -d)
 trap 'rm -rf "$work"' EXIT
-awk 'BEGIN { for (i = 0; i < 5000; i++) printf "{\"key\":\"/calico/v1/config/k%d\",\"value\":\"v%d\"}\n", (i * 7919) % 1000, i }' >"$work/feed"
+awk 'BEGIN { for (i = 0; i < 100000; i++) printf "{\"key\":\"/calico/v1/config/k%d\",\"value\":\"v%d\"}\n", (i * 7919) % 1000, i }' >"$work/feed"
 bytes=$(wc -c <"$work/feed")
 measure() {
     name=$1
@@ -25,7 +26,14 @@ measure "wc -l" count
 measure "stream" stream
 measure "follow --brief" follow
 measure "stream | follow --brief" both
-if [ -x /usr/bin/time ]; then
-    /usr/bin/time -f "stream: peak %M KB" "$program" stream <"$work/feed" >/dev/null
-    /usr/bin/time -f "follow --brief: peak %M KB" "$program" follow --brief <"$work/frames" >/dev/null
+peak() {
+    from=$1
+    shift
+    python3 -c 'import resource, subprocess, sys
+subprocess.run(sys.argv[2:], stdin=open(sys.argv[1]), stdout=subprocess.DEVNULL, check=True)
+print("%s: peak %d KB" % (" ".join(sys.argv[3:]), resource.getrusage(resource.RUSAGE_CHILDREN).ru_maxrss))' "$from" "$program" "$@"
+}
+if command -v python3 >/dev/null; then
+    peak "$work/feed" stream
+    peak "$work/frames" follow --brief
 fi

@@ -2,3 +2,4 @@ pub mod Endings
 pub mod Notes
 pub mod Streamed
 pub mod Words
+pub mod Worlds

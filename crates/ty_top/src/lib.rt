@@ -3,6 +3,7 @@
 
 mod ending;
 mod following;
+mod laws;
 mod notes;
 mod stream;
 mod streaming;
@@ -10,6 +11,7 @@ mod top;
 mod words;
 
 pub use ending::Local;
+pub use laws::streams_rebuild_the_worlds;
 pub use top::local;
 
 #[cfg(test)]

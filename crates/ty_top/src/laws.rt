@@ -1,0 +1,18 @@
+// Laws of the definitions.
+ghost use Rattle.std.specs.Prelude.{◌≡◌, ◌<◌, ◌^◌, ◌++◌, List, ℕ, None, true, length};
+ghost use Rattle.std.specs.List.{All, list_all};
+ghost use Rattle.ty_base.specs.declared.item.Item.{Item};
+ghost use Rattle.ty_wire.specs.declared.message.Msg.{Msg};
+ghost use Rattle.ty_client.specs.Rebuilt.{ats};
+ghost use Rattle.ty_client.specs.Heard.{Hears};
+ghost use Rattle.ty_client.specs.Worlds.{IsRising};
+ghost use Rattle.ty_top.specs.Streamed.{streamed};
+ghost use Rattle.ty_top.specs.Worlds.{within_limits, IsWorldAt};
+
+/// Each front of what `stream` writes from breadcrumb j on reads without a fault, its numbers rise, and what is
+/// rebuilt at breadcrumb n has the map and status of the world at n.
+pub fn streams_rebuild_the_worlds()
+    ensures { (items : List Item) (j : ℕ) (bytes more : List ℕ) → list_all within_limits items ≡ true → length items < 2 ^ 64 → length bytes < 2 ^ 40
+        → bytes ++ more ≡ streamed items j
+        → (ms : List Msg) × Hears bytes ms None × IsRising (ats ms) × All (λ a. IsWorldAt items a) (ats ms) }
+{}
