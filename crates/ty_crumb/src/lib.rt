@@ -10,3 +10,6 @@ pub use crumb::Crumb;
 pub use laws::the_book_grows_by_the_next_batch;
 pub use next::{Made, next_crumb};
 pub use snapshots::snapshot;
+
+#[cfg(test)]
+mod tests;
