@@ -1,13 +1,16 @@
 -- What `stream` writes is a talk over the book of its items, and the entries of a book leave the worlds.
-use Rattle.std.proofs.Common.{◌≡◌, ℕ, zero, suc, ◌+◌, ◌-◌, ◌^◌, ◌<◌, ◌≤◌, Bool, true, false, cond, nat_le, List, [], ◌∷◌, ◌++◌, length, map, refl, sym, ap, subst, ◌∙◌, arith}
+use Rattle.std.proofs.Common.{◌≡◌, ℕ, zero, suc, ◌+◌, ◌-◌, ◌^◌, ◌<◌, ◌≤◌, Bool, true, false, cond, ◌&&◌, ◌||◌, ◌==◌, ◌%◌, nat_le, List, [], ◌∷◌, ◌++◌, length, take, map, get_or, refl, sym, ap, subst, ◌∙◌, arith, inl, inr, eq-or-lt_of_le, eq-eqb, le-leb}
 use Rattle.std.specs.Prelude.{None, if◌then◌else◌}
-use Rattle.std.specs.List.{All, list_all, filter, range_with_len}
+use Rattle.std.specs.List.{All, list_all, filter, range_with_len, suffix_len}
 use Rattle.std.proofs.lemmas.Bool.{leb-true}
 use Rattle.std.proofs.lemmas.List.Elements.{All-from_recursion}
+use Rattle.std.proofs.lemmas.List.{take_all}
 use Rattle.std.proofs.lemmas.List.FromFn.{length-range_with_len, length-map-range_with_len}
 use Rattle.ty_base.specs.declared.item.Item.{Item}
 use Rattle.ty_base.specs.declared.entry.Entry.{Entry}
-use Rattle.ty_base.specs.Feed.{World, same_world, world_at, is_closing, closings, cuts_after, cuts, last, entry, book}
+use Rattle.ty_base.specs.Feed.{World, folded, same_world, world_at, world, is_update, is_closing, closings, cuts_after, cuts, last, last_of, entry, book}
+use Rattle.ty_base.specs.Readings.{AllNext}
+use Rattle.ty_base.proofs.Reading.{cuts_are}
 use Rattle.ty_base.proofs.Passing.{both, deltas_pass}
 use Rattle.ty_base.proofs.Replay.{replays}
 use Rattle.ty_wire.specs.Limits.{key_passes, value_passes, entry_passes}
@@ -18,10 +21,10 @@ use Rattle.ty_wire.specs.declared.message.Msg.TheVariants.{ServerHello}
 use Rattle.ty_wire.proofs.Talking.{talk-wire}
 use Rattle.ty_client.specs.Rebuilt.{Rebuilt, ats}
 use Rattle.ty_client.specs.Heard.{Hears}
-use Rattle.ty_client.specs.Worlds.{IsRising, IsWorldOf}
-use Rattle.ty_client.proofs.Talks.{talk_rebuilds, front_rebuilds, hello_heard}
+use Rattle.ty_client.specs.Worlds.{IsRising, IsWorldOf, rebuilt_after}
+use Rattle.ty_client.proofs.Talks.{talk_rebuilds, front_rebuilds, whole_rebuilds, hello_heard}
 use Rattle.ty_top.specs.Streamed.{streamed}
-use Rattle.ty_top.specs.Worlds.{within_limits, IsWorldAt}
+use Rattle.ty_top.specs.Worlds.{within_limits, IsWorldAt, rebuilt_at}
 
 -- ---- the book
 
@@ -104,3 +107,72 @@ stream_rebuilds items j bytes more p l short e =
       | true ↦ λ t f. from_talk items j bytes more p l short (leb-true j n t) f
       | false ↦ λ t f. from_hello items bytes more short f
     ] refl e
+
+-- ---- the whole
+
+same_numbers : (items : List Item) (k j : ℕ) → j + k ≤ last true items + 1 → map (rebuilt_after (book true items)) (range_with_len j k) ≡ map (rebuilt_at items) (range_with_len j k)
+same_numbers items zero j h = refl
+same_numbers items (suc k) j h =
+    ap (λ (w : World). record { number = j; status = w.status; pairs = w.pairs } ∷ map (rebuilt_after (book true items)) (range_with_len (j + 1) k)) (replays true items j (omega (arith, h)))
+    ∙ ap (λ (l : List Rebuilt). rebuilt_at items j ∷ l) (same_numbers items k (j + 1) (omega (arith, h)))
+
+abbrev pub RebuildsAll : List Item → ℕ → List ℕ → Type 0
+RebuildsAll items j bytes = (ms : List Msg) × Hears bytes ms None × (ats ms ≡ map (rebuilt_at items) (j ∷ range_with_len (j + 1) (last true items - j)))
+
+whole_talk : (items : List Item) (j : ℕ) → list_all within_limits items ≡ true → length items < 2 ^ 64 → j ≤ last true items
+    → (bytes : List ℕ) → frames (talk (book true items) j (range_with_len (j + 1) (last true items - j))) ≡ bytes → length bytes < 2 ^ 40 → RebuildsAll items j bytes
+whole_talk items j p l h bytes e short =
+    let es : List Entry = book true items in
+    let ns : List ℕ = range_with_len (j + 1) (last true items - j) in
+    let rise : Rise j ns (length es) = all_rise (last true items - j) j (length es) (omega (arith, book_length items, h)) in
+    let few : length es < 2 ^ 64 = omega (arith, book_length items, last_few items, l) in
+    let brief : length (frames (talk es j ns)) < 2 ^ 40 = subst (λ (x : List ℕ). length x < 2 ^ 40) (sym e) short in
+    let r = whole_rebuilds es j ns (talk es j ns) (talk_rebuilds es j ns rise) (talk-wire es j ns (book_passes items p) few rise) brief in
+    (talk es j ns, subst (λ (x : List ℕ). Hears x (talk es j ns) None) e r.0, r.1 ∙ same_numbers items (suc (last true items - j)) j (omega (arith, h)))
+
+pub all_rebuilt : (items : List Item) (j : ℕ) → list_all within_limits items ≡ true → length items < 2 ^ 64 → j ≤ last true items → length (streamed items j) < 2 ^ 40 → RebuildsAll items j (streamed items j)
+unfolding streamed
+all_rebuilt items j p l h short =
+    let bytes : List ℕ = frames (talk (book true items) j (range_with_len (j + 1) (last true items - j))) in
+    whole_talk items j p l h (streamed items j) (ap (λ (b : Bool). if b then bytes else frame (ServerHello 1)) (sym (le-leb j (last true items) h))) short
+
+-- ---- the last world
+
+cuts_within : (items : List Item) (test : ℕ → Bool) (k a c n : ℕ) → c ≤ n → a + k ≤ n + 1 → last_of c (cuts_after items c (filter test (range_with_len a k))) ≤ n
+unfolding cuts_after
+cuts_within items test zero a c n h l = h
+cuts_within items test (suc k) a c n h l =
+    let rest : List ℕ = filter test (range_with_len (a + 1) k) in
+    elim (test a) as (λ v. last_of c (cuts_after items c (cond v (a ∷ rest) rest)) ≤ n) [
+      | true ↦ elim (same_world (world_at items c) (world_at items a)) as (λ v. last_of c (cond v (cuts_after items c rest) (a ∷ cuts_after items a rest)) ≤ n) [
+        | true ↦ cuts_within items test k (a + 1) c n h (omega (arith, l))
+        | false ↦ cuts_within items test k (a + 1) a n (omega (arith, l)) (omega (arith, l))
+      ]
+      | false ↦ cuts_within items test k (a + 1) c n h (omega (arith, l))
+    ]
+
+-- no closing behind the last cut differs
+same_at_end : (items : List Item) (ps : List ℕ) (c q : ℕ) → AllNext true items c ps → last_of c ps ≤ q → q ≤ length items → is_closing true items q ≡ true → world_at items (last_of c ps) ≡ world_at items q
+same_at_end items [] c q h l m t = elim (eq-or-lt_of_le l) [ inl e ↦ ap (world_at items) e | inr r ↦ h q r m t ]
+same_at_end items (p ∷ ps) c q h l m t = same_at_end items ps p q h.1 l m t
+
+last_is_at : (cs : List ℕ) (d : ℕ) → get_or (d ∷ cs) (length cs) 0 ≡ last_of d cs
+last_is_at [] d = refl
+last_is_at (c ∷ cs) d = last_is_at cs c
+
+or_true : (a : Bool) → a || true ≡ true
+or_true true = refl
+or_true false = refl
+
+end_closes : (items : List Item) → is_closing true items (length items) ≡ true
+end_closes items =
+    let run : Bool = suffix_len is_update (take (length items) items) % 100 == 0 in
+    ap (λ (b : Bool). run || (true && b)) (eq-eqb (length items) (length items) refl) ∙ or_true run
+
+pub last_world : (items : List Item) → world true items (last true items) ≡ folded items
+unfolding cuts closings
+last_world items =
+    let n : ℕ = length items in
+    ap (world_at items) (last_is_at (cuts true items) 0)
+    ∙ same_at_end items (cuts true items) 0 n (cuts_are true items) (cuts_within items (is_closing true items) n 1 0 n (omega arith) (omega arith)) (omega arith) (end_closes items)
+    ∙ ap folded (take_all n items (omega arith))

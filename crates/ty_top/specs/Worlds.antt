@@ -1,5 +1,5 @@
 -- What the bytes of `stream` let a client rebuild.
-use Rattle.std.specs.Prelude.{◌≡◌, ◌≤◌, Bool, true, List}
+use Rattle.std.specs.Prelude.{◌≡◌, ◌≤◌, ℕ, Bool, true, List}
 use Rattle.ty_base.specs.declared.item.Item.{Item}
 use Rattle.ty_base.specs.Feed.{last, world}
 use Rattle.ty_base.specs.Passing.{item_passes}
@@ -16,3 +16,7 @@ pub record IsWorldAt (items : List Item) (a : Rebuilt) : Type 0 where
   pub known : a.number ≤ last true items
   pub pairs : a.pairs ≡ (world true items a.number).pairs
   pub status : a.status ≡ (world true items a.number).status
+
+-- the map and the status of the world at breadcrumb n, under its number
+abbrev pub rebuilt_at : List Item → ℕ → Rebuilt
+rebuilt_at items n = record { number = n; status = (world true items n).status; pairs = (world true items n).pairs }

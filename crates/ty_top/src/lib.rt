@@ -11,7 +11,7 @@ mod top;
 mod words;
 
 pub use ending::Local;
-pub use laws::streams_rebuild_the_worlds;
+pub use laws::{streams_rebuild_the_worlds, whole_streams_rebuild_every_world};
 pub use top::local;
 
 #[cfg(test)]
