@@ -6,3 +6,4 @@ pub mod Printed
 pub mod Followed
 pub mod Snapshots
 pub mod Talks
+pub mod Books

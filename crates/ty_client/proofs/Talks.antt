@@ -251,7 +251,7 @@ numbers_rise : (es : List Entry) (n : ℕ) (ns : List ℕ) (most : ℕ) → Rise
 numbers_rise es n [] most r = tt
 numbers_rise es n (k ∷ ns) most r = (r.0, numbers_rise es k ns most r.1)
 
-within : (n : ℕ) (ns : List ℕ) (most : ℕ) → Rise n ns most → n ≤ most
+pub within : (n : ℕ) (ns : List ℕ) (most : ℕ) → Rise n ns most → n ≤ most
 within n [] most r = r
 within n (k ∷ ns) most r = omega (arith, r.0, within k ns most r.1)
 

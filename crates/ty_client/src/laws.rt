@@ -1,7 +1,9 @@
 // Laws of the definitions.
-ghost use Rattle.std.specs.Prelude.{◌≡◌, ◌<◌, ◌^◌, ◌++◌, ◌∷◌, List, ℕ, [], None, true, length, map};
+ghost use Rattle.std.specs.Prelude.{◌≡◌, ◌<◌, ◌^◌, ◌++◌, ◌∷◌, List, ℕ, Bool, [], None, true, length, map};
 ghost use Rattle.std.specs.List.{All, list_all};
+ghost use Rattle.ty_base.specs.declared.item.Item.{Item};
 ghost use Rattle.ty_base.specs.declared.entry.Entry.{Entry};
+ghost use Rattle.ty_base.specs.Feed.{book};
 ghost use Rattle.ty_wire.specs.Limits.{entry_passes};
 ghost use Rattle.ty_wire.specs.Wire.{frame, frames};
 ghost use Rattle.ty_wire.specs.Talk.{talk, ping_fits, Rise, IsTalk};
@@ -9,7 +11,7 @@ ghost use Rattle.ty_wire.specs.declared.message.Msg.{Msg};
 ghost use Rattle.ty_wire.specs.declared.message.Msg.TheVariants.{ServerHello};
 ghost use Rattle.ty_client.specs.Rebuilt.{ats};
 ghost use Rattle.ty_client.specs.Heard.{Hears};
-ghost use Rattle.ty_client.specs.Worlds.{IsRising, IsWorldOf, rebuilt_after};
+ghost use Rattle.ty_client.specs.Worlds.{IsRising, IsWorldOf, rebuilt_after, within_limits, IsWorldAt, rebuilt_at};
 
 /// Each front of a talk over a list of entries reads without a fault, its crumb numbers rise, and what is rebuilt at
 /// each crumb end n has the map and status that the first n entries leave. So it is with pings, the whole talk has a
@@ -26,4 +28,16 @@ pub fn talks_rebuild_worlds()
         → Hears (frames all) all None × (ats all ≡ map (rebuilt_after entries) (e0 ∷ numbers)) }
     ensures hello { (bytes more : List ℕ) → length bytes < 2 ^ 40 → bytes ++ more ≡ frame (ServerHello 1)
         → (ms : List Msg) × Hears bytes ms None × (ats ms ≡ []) }
+{}
+
+/// Each front of a talk over the book of a list of items, with pings in it or without, reads without a fault, its crumb
+/// numbers rise, and what is rebuilt at breadcrumb n has the map and status of the world at cut n. The whole talk has a
+/// crumb end for each of its numbers. The keys and values of the items are UTF-8 and within the limits.
+pub fn talks_over_books_rebuild_the_worlds()
+    ensures front { (ended : Bool) (items : List Item) (e0 : ℕ) (numbers bytes more : List ℕ) (all : List Msg) → list_all within_limits items ≡ true → length items < 2 ^ 64
+        → IsTalk (book ended items) e0 numbers all → list_all ping_fits all ≡ true → length bytes < 2 ^ 40 → bytes ++ more ≡ frames all
+        → (ms : List Msg) × Hears bytes ms None × IsRising (ats ms) × All (λ a. IsWorldAt ended items a) (ats ms) }
+    ensures whole { (ended : Bool) (items : List Item) (e0 : ℕ) (numbers : List ℕ) (all : List Msg) → list_all within_limits items ≡ true → length items < 2 ^ 64
+        → IsTalk (book ended items) e0 numbers all → list_all ping_fits all ≡ true → length (frames all) < 2 ^ 40
+        → Hears (frames all) all None × (ats all ≡ map (rebuilt_at ended items) (e0 ∷ numbers)) }
 {}
