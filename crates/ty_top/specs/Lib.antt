@@ -2,4 +2,3 @@ pub mod Endings
 pub mod Notes
 pub mod Streamed
 pub mod Words
-pub mod Worlds
