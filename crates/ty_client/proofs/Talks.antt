@@ -109,10 +109,11 @@ end_placed status None number n s rest e r p = (
   subst (λ (o : Option Status). InPlace o false (Some n) rest) (sym e) p,
 )
 end_placed status (Some t) number n s rest e r p = (
-  λ k. refl, (
+  λ k. refl,
+  (
     λ k. r k,
     subst (λ (o : Option Status). InPlace o false (Some n) rest) (sym e) p,
-  )
+  ),
 )
 
 end_found : (status told : Option Status) (pairs : Pairs) (n : ℕ) (rest : List Msg)
