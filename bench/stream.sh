@@ -1,7 +1,7 @@
 #!/bin/sh
 # Measures the built program: `stream`, `follow --brief` and `stream | follow --brief`, over a feed of 100,000 updates
 # of 1,000 keys, and as a peer `wc -l` over the same feed in the same run. Prints seconds, MB/s of what is read and, where
-# python3 is at hand, peak memory.
+# /usr/bin/time is at hand, peak memory.
 set -eu
 top=$(CDPATH='' cd -- "$(dirname -- "$0")/.." && pwd)
 program=$top/crates/typha/out/typha
@@ -27,14 +27,7 @@ measure "wc -l" feed count
 measure "stream" feed stream
 measure "follow --brief" frames follow
 measure "stream | follow --brief" feed both
-peak() {
-    from=$1
-    shift
-    python3 -c 'import resource, subprocess, sys
-subprocess.run(sys.argv[2:], stdin=open(sys.argv[1]), stdout=subprocess.DEVNULL, check=True)
-print("%s: peak %d KB" % (" ".join(sys.argv[3:]), resource.getrusage(resource.RUSAGE_CHILDREN).ru_maxrss))' "$from" "$program" "$@"
-}
-if command -v python3 >/dev/null; then
-    peak "$work/feed" stream
-    peak "$work/frames" follow --brief
+if [ -x /usr/bin/time ]; then
+    /usr/bin/time -f "stream: peak %M KB" "$program" stream <"$work/feed" >/dev/null
+    /usr/bin/time -f "follow --brief: peak %M KB" "$program" follow --brief <"$work/frames" >/dev/null
 fi

@@ -1,4 +1,13 @@
 pub mod Cutting
-pub mod Reading
-pub mod Small
-pub mod Steps
+pub mod Joining
+pub mod Starting
+pub mod Telling
+pub mod Growing
+pub mod Faulting
+pub mod Taking
+pub mod Moving
+pub mod Ending
+pub mod Lengthening
+pub mod Staying
+pub mod Resting
+pub mod Feeding

@@ -1,14 +1,15 @@
-//! From the bytes of a feed to its items, or to its first bad line.
+//! From the bytes of a feed, in any pieces, to its batches, or to its first fault.
 #![tactic(auto)]
 
-mod first;
-mod item;
-mod key;
-mod law;
+mod batch;
+mod intake;
+mod laws;
 mod line;
-
-pub use first::{FirstFault, first_items};
-pub use law::lines_are_cut;
-
+mod pieces;
+mod reading;
 #[cfg(test)]
 mod tests;
+
+pub use batch::{Batches, Closed, Items};
+pub use intake::{Fed, Intake, IntakeFault};
+pub use laws::{batches_join, lines_are_cut};

@@ -1,4 +1,5 @@
-use crate::{FirstFault, first_items};
+// The batches and the faults of feeds from outside, in pieces.
+use crate::{Closed, Fed, Intake, IntakeFault};
 use std::alloc::Global;
 use std::test::Fail;
 use ty_base::{Item, print_u64, status_text};
@@ -23,19 +24,58 @@ fn tell(item: &Item, out: &mut Vec<u8>) -> Result<(), Fail> {
     Ok(())
 }
 
-// What a feed's items say, or the number of its first bad line.
-fn told(alloc: Global, feed: &[u8]) -> Result<Vec<u8>, Fail> {
-    let mut out = Vec::new(alloc);
-    match first_items(alloc, feed) {
-        Ok(items) => {
-            for item in &items {
-                tell(item, &mut out)?;
-            }
-        }
-        Err(FirstFault::Line { line }) => print_u64(line, &mut out)?,
-        Err(FirstFault::NoMemory) => out.extend_from_slice(b"no memory")?,
+fn tell_batch(batch: &Closed, out: &mut Vec<u8>) -> Result<(), Fail> {
+    for item in batch.items.as_slice() {
+        tell(item, out)?;
     }
+    out.extend_from_slice(b"cut ")?;
+    print_u64(batch.cut, out)?;
+    out.push(b'\n')?;
+    Ok(())
+}
+
+fn tell_batches(fed: &Fed, out: &mut Vec<u8>) -> Result<(), Fail> {
+    for batch in fed.closed.as_slice() {
+        tell_batch(batch, out)?;
+    }
+    Ok(())
+}
+
+fn tell_fault(fault: Option<IntakeFault>, out: &mut Vec<u8>) -> Result<(), Fail> {
+    let (name, line) = match fault {
+        None => return Ok(()),
+        Some(IntakeFault::LongLine { line }) => ("long ", line),
+        Some(IntakeFault::BadUtf8 { line }) => ("utf8 ", line),
+        Some(IntakeFault::BadLine { line }) => ("bad ", line),
+        Some(IntakeFault::TooMuch) => ("much ", 0),
+    };
+    out.extend_from_slice(name.as_bytes())?;
+    print_u64(line, out)?;
+    Ok(())
+}
+
+// What a feed gives in pieces of so many bytes, and its fault.
+fn told(alloc: Global, feed: &[u8], len: usize) -> Result<Vec<u8>, Fail> {
+    let mut out = Vec::new(alloc);
+    let mut intake = Intake::new(alloc);
+    for piece in feed.chunks(len.max(1)) {
+        let fed = intake.feed(alloc, piece)?;
+        tell_batches(&fed, &mut out)?;
+    }
+    let fed = intake.end(alloc)?;
+    tell_batches(&fed, &mut out)?;
+    tell_fault(fed.fault, &mut out)?;
     Ok(out)
+}
+
+// Whether a feed gives this, whole and in pieces.
+fn gives(alloc: Global, feed: &[u8], wanted: &[u8]) -> Result<bool, Fail> {
+    for len in [1, 2, 7, 65_536] {
+        if told(alloc, feed, len)?.as_slice() != wanted {
+            return Ok(false);
+        }
+    }
+    Ok(true)
 }
 
 struct Case {
@@ -43,61 +83,84 @@ struct Case {
     told: &'static str,
 }
 
-const ITEMS: [Case; 10] = [
+const FEEDS: [Case; 14] = [
     Case { feed: "", told: "" },
     Case {
         feed: "{\"key\":\"/calico/v1/Ready\",\"value\":true}\n{\"status\":\"in-sync\"}\n",
-        told: "put /calico/v1/Ready true\nin-sync\n",
+        told: "put /calico/v1/Ready true\nin-sync\ncut 2\n",
     },
     Case {
         feed: "{\"key\":\"/calico/v1/Ready\",\"value\":true}\n\n{\"key\":\"/calico/v1/Ready\",\"value\":true}\n\n",
-        told: "put /calico/v1/Ready true\nmark\nput /calico/v1/Ready true\nmark\n",
+        told: "put /calico/v1/Ready true\nmark\ncut 2\nput /calico/v1/Ready true\nmark\ncut 4\n",
     },
     Case {
         feed: "{\"key\":\"/calico/v1/config/a\",\"value\":\"1\"}\n{\"key\":\"/calico/v1/config/b\",\"value\":\"1\"}\n{\"key\":\"/calico/v1/config/a\",\"value\":\"2\"}\n",
-        told: "put /calico/v1/config/a \"1\"\nput /calico/v1/config/b \"1\"\nput /calico/v1/config/a \"2\"\n",
+        told: "put /calico/v1/config/a \"1\"\nput /calico/v1/config/b \"1\"\nput /calico/v1/config/a \"2\"\ncut 3\n",
     },
     Case {
         feed: "{\"key\":\"/calico/v1/config/a\",\"value\":\"1\"}\n{\"key\":\"/calico/v1/config/a\",\"value\":null}\n\n{\"key\":\"/calico/v1/config/b\",\"value\":\"1\"}\n\n",
-        told: "put /calico/v1/config/a \"1\"\ndel /calico/v1/config/a\nmark\nput /calico/v1/config/b \"1\"\nmark\n",
+        told: "put /calico/v1/config/a \"1\"\ndel /calico/v1/config/a\nmark\ncut 3\nput /calico/v1/config/b \"1\"\nmark\ncut 5\n",
     },
     Case {
         feed: " \t\r\n{\"status\":\"resync\",\"at\":3}\r\n{\"status\":\"wait-for-ready\"}",
-        told: "mark\nresync\nwait-for-ready\n",
+        told: "mark\ncut 1\nresync\ncut 2\nwait-for-ready\ncut 3\n",
     },
     Case {
         feed: " { \"value\" : false , \"revision\" : \"71\", \"key\" : \"/calico/v1/Ready\" } ",
-        told: "put /calico/v1/Ready false\n",
+        told: "put /calico/v1/Ready false\ncut 1\n",
     },
     Case {
         feed: "{\"key\":\"/calico/v1/config/A-z_0.9\",\"value\":\"\\u00e9\\u0001\\/\\\"\"}",
-        told: "put /calico/v1/config/A-z_0.9 \"\u{e9}\\u0001/\\\"\"\n",
+        told: "put /calico/v1/config/A-z_0.9 \"\u{e9}\\u0001/\\\"\"\ncut 1\n",
     },
     Case {
         feed: "{\"key\":\"/calico/v1/config/x\"}\n{\"key\":\"/calico/v1/Ready\"}",
-        told: "del /calico/v1/config/x\ndel /calico/v1/Ready\n",
+        told: "del /calico/v1/config/x\ndel /calico/v1/Ready\ncut 2\n",
     },
     Case {
         feed: "{\"key\":\"/calico/v1/config/a\",\"key\":\"/calico/v1/config/b\"}",
-        told: "del /calico/v1/config/b\n",
+        told: "del /calico/v1/config/b\ncut 1\n",
+    },
+    // A key that doesn't read gives no item, whatever its value.
+    Case {
+        feed: "{\"key\":\"/calico/v2/x\",\"value\":\"1\"}\n{\"key\":\"\"}\n",
+        told: "",
+    },
+    Case {
+        feed: "{\"key\":\"/calico/v2/x\",\"value\":\"1\"}\n\n{\"key\":\"/calico/v2/x\"}\n{\"key\":\"/calico/v1/Ready\",\"value\":true}\n",
+        told: "mark\ncut 1\nput /calico/v1/Ready true\ncut 2\n",
+    },
+    // An invalid value deletes its key.
+    Case {
+        feed: "{\"key\":\"/calico/v1/Ready\",\"value\":\"true\"}\n{\"key\":\"/calico/v1/config/a\",\"value\":[\"1\"]}\n{\"key\":\"/calico/v1/Ready\",\"value\":1.5}\n",
+        told: "del /calico/v1/Ready\ndel /calico/v1/config/a\ndel /calico/v1/Ready\ncut 3\n",
+    },
+    // What isn't closed when a bad line comes isn't published.
+    Case {
+        feed: "{\"key\":\"/calico/v1/Ready\",\"value\":true}\n\n{\"key\":\"/calico/v1/Ready\",\"value\":false}\noops\n\n",
+        told: "put /calico/v1/Ready true\nmark\ncut 2\nbad 4",
     },
 ];
 
 #[test]
-fn a_feed_has_the_items_of_its_lines(rt: HostRuntime) -> Result<(), Fail> {
-    for case in &ITEMS {
-        let told = told(rt.alloc(), case.feed.as_bytes())?;
-        assert!(rt; told.as_slice() == case.told.as_bytes(), "{}", case.feed);
+fn a_feed_gives_its_batches_in_any_pieces(rt: HostRuntime) -> Result<(), Fail> {
+    for case in &FEEDS {
+        assert!(rt;
+            gives(rt.alloc(), case.feed.as_bytes(), case.told.as_bytes())?,
+            "{}",
+            case.feed
+        );
     }
     Ok(())
 }
 
 // Lines that are bad.
-const BAD: [&str; 24] = [
+const BAD: [&str; 18] = [
     "oops",
     "7",
     "[]",
     "{}",
+    "{\"value\":true}",
     "{\"status\":\"in-sync\"",
     "{\"status\":\"in sync\"}",
     "{\"status\":null}",
@@ -108,58 +171,83 @@ const BAD: [&str; 24] = [
     "{\"key\":7,\"value\":true}",
     "{\"key\":\"/calico/v1/Ready\",\"value\":true,\"revision\":7}",
     "{\"key\":\"/calico/v1/Ready\",\"value\":true,\"revision\":null}",
-    "{\"key\":\"/calico/v1/Ready\",\"value\":\"true\"}",
-    "{\"key\":\"/calico/v1/Ready\",\"value\":1}",
-    "{\"key\":\"/calico/v1/config/a\",\"value\":true}",
-    "{\"key\":\"/calico/v1/config/a\",\"value\":[\"1\"]}",
-    "{\"key\":\"/calico/v1/config/\",\"value\":\"1\"}",
-    "{\"key\":\"/calico/v1/config/a b\",\"value\":\"1\"}",
-    "{\"key\":\"/calico/v1/config/\u{e9}\",\"value\":\"1\"}",
-    "{\"key\":\"/calico/v1/config\",\"value\":\"1\"}",
-    "{\"key\":\"/calico/v2/x\",\"value\":\"1\"}",
+    "{\"key\":\"/calico/v1/Ready\",\"value\":true} x",
+    "{\"key\":\"/calico/v1/Ready\",\"value\":01}",
     "\u{a0}",
 ];
 
 #[test]
 fn the_first_bad_line_is_told(rt: HostRuntime) -> Result<(), Fail> {
+    let wanted = "in-sync\ncut 1\nmark\ncut 2\nbad 3".as_bytes();
     for bad in &BAD {
         let mut feed = b"{\"status\":\"in-sync\"}\n\n".to_vec(rt.alloc())?;
         feed.extend_from_slice(bad.as_bytes())?;
-        feed.extend_from_slice(b"\nand another\n")?;
-        let told = told(rt.alloc(), &feed)?;
-        assert!(rt; told.as_slice() == b"3".as_slice(), "{bad}");
+        assert!(rt; gives(rt.alloc(), &feed, wanted)?, "{bad}");
+        feed.extend_from_slice(b"\n\xff\n\n")?;
+        assert!(rt; gives(rt.alloc(), &feed, wanted)?, "{bad}");
     }
-    assert!(rt; told(rt.alloc(), b"\n\xff\n")?.as_slice() == b"2".as_slice());
+    let wanted = "mark\ncut 1\nutf8 2".as_bytes();
+    assert!(rt; gives(rt.alloc(), b"\n{\"key\":\"\xff\"}\noops", wanted)?);
     Ok(())
 }
 
-// How many items a feed has, or none where it has none.
-fn count(alloc: Global, feed: &[u8]) -> Option<usize> {
-    match first_items(alloc, feed) {
-        Ok(items) => Some(items.len()),
-        Err(_) => None,
+#[test]
+fn a_batch_closes_at_its_hundredth_update(rt: HostRuntime) -> Result<(), Fail> {
+    let mut feed = Vec::new(rt.alloc());
+    let mut wanted = Vec::new(rt.alloc());
+    for n in 1..102 {
+        feed.extend_from_slice(b"{\"key\":\"/calico/v1/config/k")?;
+        print_u64(n, &mut feed)?;
+        feed.extend_from_slice(b"\",\"value\":\"1\"}\n")?;
+        wanted.extend_from_slice(b"put /calico/v1/config/k")?;
+        print_u64(n, &mut wanted)?;
+        wanted.extend_from_slice(b" \"1\"\n")?;
+        if n == 100 {
+            wanted.extend_from_slice(b"cut 100\n")?;
+        }
     }
+    wanted.extend_from_slice(b"cut 101\n")?;
+    assert!(rt; gives(rt.alloc(), &feed, &wanted)?);
+    Ok(())
 }
 
-// A line for a setting, with a name and a value of so many bytes.
-fn setting(alloc: Global, name: usize, value: usize) -> Result<Vec<u8>, Fail> {
-    let mut feed = b"{\"key\":\"/calico/v1/config/".to_vec(alloc)?;
-    feed.extend_from_slice(&vec![in alloc; b'n'; name]?)?;
-    feed.extend_from_slice(b"\",\"value\":\"")?;
-    feed.extend_from_slice(&vec![in alloc; b'v'; value]?)?;
-    feed.extend_from_slice(b"\"}")?;
-    Ok(feed)
+// How many batches a call gives, and the fault.
+fn brief(fed: &Fed) -> (usize, Option<IntakeFault>) {
+    (fed.closed.len(), fed.fault)
 }
 
 #[test]
-fn limits_are_exact(rt: HostRuntime) -> Result<(), Fail> {
+fn a_long_line_is_told_at_the_byte_past_the_limit(rt: HostRuntime) -> Result<(), Fail> {
     let alloc = rt.alloc();
-    assert!(rt; count(alloc, &setting(alloc, 200, 8_190)?) == Some(1));
-    assert!(rt; count(alloc, &setting(alloc, 201, 1)?) == None);
-    assert!(rt; count(alloc, &setting(alloc, 1, 8_191)?) == None);
-    let mut line = vec![in alloc; b' '; 8_388_608]?;
-    assert!(rt; count(alloc, &line) == Some(1));
-    line.push(b' ')?;
-    assert!(rt; count(alloc, &line) == None);
+    let line = vec![in alloc; b' '; 8_388_608]?;
+    let long = Some(IntakeFault::LongLine { line: 2 });
+    let mut intake = Intake::new(alloc);
+    let first = intake.feed(alloc, &line)?;
+    assert_eq!(rt; brief(&first), (0, None));
+    let ended = intake.feed(alloc, b"\n")?;
+    assert_eq!(rt; brief(&ended), (1, None));
+    let whole = intake.feed(alloc, &line)?;
+    assert_eq!(rt; brief(&whole), (0, None));
+    let past = intake.feed(alloc, b" ")?;
+    assert_eq!(rt; brief(&past), (0, long));
+    let after = intake.feed(alloc, b"\n\n")?;
+    assert_eq!(rt; brief(&after), (0, long));
+    let end = intake.end(alloc)?;
+    assert_eq!(rt; brief(&end), (0, long));
+    Ok(())
+}
+
+#[test]
+fn nothing_comes_after_the_end(rt: HostRuntime) -> Result<(), Fail> {
+    let alloc = rt.alloc();
+    let mut intake = Intake::new(alloc);
+    let fed = intake.feed(alloc, b"{\"key\":\"/calico/v1/Ready\"}")?;
+    assert_eq!(rt; brief(&fed), (0, None));
+    let end = intake.end(alloc)?;
+    assert_eq!(rt; brief(&end), (1, None));
+    let more = intake.feed(alloc, b"\n\n\xff\n")?;
+    assert_eq!(rt; brief(&more), (0, None));
+    let again = intake.end(alloc)?;
+    assert_eq!(rt; brief(&again), (0, None));
     Ok(())
 }

@@ -16,24 +16,8 @@ use Rattle.ty_base.specs.declared.status.Status.TheVariants.{Wait}
 use Rattle.ty_wire.specs.declared.message.Msg.TheVariants.{ServerHello}
 use Rattle.std.proofs.lemmas.List.FromFn.{length-map-range_with_len}
 use Rattle.ty_top.proofs.Limits.{le_true}
+use Rattle.ty_top.proofs.Told.{last_of_range, groups_more, one_between}
 use Rattle.ty_top.specs.Streamed.{streamed}
-
-last_of_range : (i d : ℕ) → last_of d (range_with_len (d + 1) i) ≡ d + i
-last_of_range zero d = omega arith
-last_of_range (suc i) d = last_of_range i (d + 1) ∙ omega arith
-
-groups_more : (es : List Entry) (from : ℕ) (ns : List ℕ) (m : ℕ) → groups_after es from (ns ++ m ∷ []) ≡ groups_after es from ns ++ group_between es (last_of from ns) m
-unfolding groups_after
-groups_more es from [] m = append-nil (group_between es from m)
-groups_more es from (n ∷ ns) m = ap (λ ms. group_between es from n ++ ms) (groups_more es n ns m) ∙ sym (append_assoc (group_between es from n) (groups_after es n ns) (group_between es (last_of n ns) m))
-
-one_between : (es : List Entry) (i : ℕ) (e : Entry) → i < length es → e ≡ get_or es i e → deltas_between es i (i + 1) ≡ e.deltas
-one_between es i e h is =
-    let one : i + 1 - i ≡ 1 = omega arith in
-    ap (λ k. flat_map (λ x. x.deltas) (take k (drop i es))) one
-    ∙ ap (λ xs. flat_map (λ x. x.deltas) (take 1 xs)) (drop-cons es i e h)
-    ∙ ap (λ x. x.deltas ++ []) (sym is)
-    ∙ append-nil e.deltas
 
 pub world_more : (es : List Entry) (i : ℕ) (e : Entry) → i < length es → e ≡ get_or es i e → world_after es (i + 1) ≡ published (world_after es i) e
 unfolding replay

@@ -1,4 +1,10 @@
+pub mod Told
 pub mod Books
-pub mod Ends
 pub mod Limits
 pub mod Streams
+pub mod NextBatch
+pub mod Grown
+pub mod Published
+pub mod FeedGrows
+pub mod ReadSoFar
+pub mod Ends

@@ -10,8 +10,9 @@ use Rattle.ty_base.specs.declared.delta.Delta.{Delta}
 use Rattle.ty_base.specs.declared.entry.Entry.{Entry}
 use Rattle.ty_base.specs.Feed.{book, entry, last}
 use Rattle.ty_base.specs.Passing.{option_passes, item_passes, delta_passes}
-use Rattle.ty_base.proofs.Passing.{both, deltas_pass}
-use Rattle.ty_intake.specs.Items.{IsSmall}
+use Rattle.ty_base.proofs.Passing.{both, left, right, deltas_pass}
+use Rattle.std.specs.Str.{is_utf8}
+use Rattle.ty_crumb.specs.Limits.{key_fits, value_fits, items_fit}
 use Rattle.ty_wire.specs.Limits.{value_len, delta_fits, IsWithinLimits}
 
 abbrev short_key : List ℕ → Bool
@@ -24,27 +25,37 @@ value_short : (o : Option (List ℕ)) → option_passes short_value o ≡ nat_le
 value_short None = refl
 value_short (Some v) = refl
 
-within : (ds : List Delta) → list_all (delta_passes short_key short_value) ds ≡ list_all delta_fits ds
+pub within : (ds : List Delta) → list_all (delta_passes short_key short_value) ds ≡ list_all delta_fits ds
 within [] = refl
 within (d ∷ ds) = ap (λ b. (short_key d.key && b) && list_all (delta_passes short_key short_value) ds) (value_short d.value) ∙ ap (λ b. delta_fits d && b) (within ds)
 
 pub le_true : (a b : ℕ) → a ≤ b → nat_le a b ≡ true
 le_true a b h = le-leb a b h
 
-small_passes : (x : Item) → IsSmall x → item_passes short_key short_value x ≡ true
-small_passes (Put key value) h = both (le_true (length key) 1024 h.0) (le_true (length value) 1048576 (omega (arith, h.1)))
-small_passes (Del key) h = le_true (length key) 1024 h
-small_passes (State s) h = refl
-small_passes Mark h = refl
-
-all_pass : (items : List Item) → AllByRecursion IsSmall items → list_all (item_passes short_key short_value) items ≡ true
-all_pass [] h = refl
-all_pass (x ∷ items) h = both (small_passes x h.0) (all_pass items h.1)
-
 entries_within : (items : List Item) → list_all (item_passes short_key short_value) items ≡ true → (ns : List ℕ) → AllByRecursion (λ e. IsWithinLimits e.deltas) (map (entry true items) ns)
 entries_within items h [] = tt
 entries_within items h (n ∷ ns) = (sym (within (entry true items n).deltas) ∙ deltas_pass short_key short_value true items n h, entries_within items h ns)
 
-pub book_within : (items : List Item) → All IsSmall items → All (λ e. IsWithinLimits e.deltas) (book true items)
+pub book_within : (items : List Item) → items_fit items ≡ true → All (λ e. IsWithinLimits e.deltas) (book true items)
 unfolding book
-book_within items h = All-from_recursion _ _ (entries_within items (all_pass items (recursion_from_All _ _ h)) (range_with_len 1 (last true items)))
+book_within items h = All-from_recursion _ _ (entries_within items h (range_with_len 1 (last true items)))
+
+-- the limits of a batch without that its texts are UTF-8
+
+abbrev utf8_up_to : ℕ → List ℕ → Bool
+utf8_up_to most text = nat_le (length text) most && is_utf8 text
+
+item_within : (x : Item) → item_passes (utf8_up_to 1024) (utf8_up_to 1048576) x ≡ true → item_passes key_fits value_fits x ≡ true
+item_within (Put key value) h =
+    let k : utf8_up_to 1024 key ≡ true = left (utf8_up_to 1024 key) (utf8_up_to 1048576 value) h in
+    let v : utf8_up_to 1048576 value ≡ true = right (utf8_up_to 1024 key) (utf8_up_to 1048576 value) h in
+    both (left (key_fits key) (is_utf8 key) k) (left (value_fits value) (is_utf8 value) v)
+item_within (Del key) h = left (key_fits key) (is_utf8 key) h
+item_within (State s) h = refl
+item_within Mark h = refl
+
+pub items_within : (items : List Item) → list_all (item_passes (utf8_up_to 1024) (utf8_up_to 1048576)) items ≡ true → items_fit items ≡ true
+items_within [] h = refl
+items_within (x ∷ items) h =
+    both (item_within x (left (item_passes (utf8_up_to 1024) (utf8_up_to 1048576) x) (list_all (item_passes (utf8_up_to 1024) (utf8_up_to 1048576)) items) h))
+    (items_within items (right (item_passes (utf8_up_to 1024) (utf8_up_to 1048576) x) (list_all (item_passes (utf8_up_to 1024) (utf8_up_to 1048576)) items) h))

@@ -4,10 +4,12 @@ use Rattle.std.specs.Io.KnownBytes.{Appends}
 use Rattle.ty_base.specs.Causes.{Rose}
 use Rattle.ty_base.specs.Fronts.{AppendsFront}
 use Rattle.ty_wire.specs.declared.splitting.WireFault.TheVariants as wire
+use Rattle.ty_intake.specs.declared.intake.IntakeFault.{IntakeFault}
+use Rattle.ty_intake.specs.declared.intake.IntakeFault.TheVariants as feed
 use Rattle.ty_client.specs.declared.fault.StreamFault.{StreamFault}
 use Rattle.ty_client.specs.declared.fault.StreamFault.TheVariants as stream
 use Rattle.ty_top.specs.declared.ending.Ending.{Ending}
-use Rattle.ty_top.specs.declared.ending.Ending.TheVariants.{Done, Usage, Line, Read, Write, Memory, TooMuch, Fault, Cut}
+use Rattle.ty_top.specs.declared.ending.Ending.TheVariants.{Done, Usage, Feed, Read, Write, Memory, Fault, Cut}
 
 abbrev pub usage_note : List ℕ
 usage_note = codes "usage: typha stream|follow|sim|load|serve [--from N] [--brief] [--at ADDR] [--host NAME] [--tries N] [--number N] [--workers N]\n"
@@ -32,14 +34,19 @@ fault_note (stream.Order k) = numbered (codes "typha: frame ") k (codes ": out o
 fault_note (stream.NotRising k had found) = rising_note k had found
 fault_note (stream.Version found) = numbered (codes "typha: frame 1: version ") found (codes "\n")
 
+abbrev pub feed_note : IntakeFault → List ℕ
+feed_note (feed.LongLine n) = numbered (codes "typha: line ") n (codes ": too long\n")
+feed_note (feed.BadUtf8 n) = numbered (codes "typha: line ") n (codes ": not UTF-8\n")
+feed_note (feed.BadLine n) = numbered (codes "typha: line ") n (codes ": not a feed line\n")
+feed_note feed.TooMuch = codes "typha: too much input\n"
+
 abbrev pub note_of : Ending → List ℕ
 note_of Done = []
 note_of Usage = usage_note
-note_of (Line n) = numbered (codes "typha: line ") n (codes ": not a feed line\n")
+note_of (Feed f) = feed_note f
 note_of Read = codes "typha: read fault\n"
 note_of Write = codes "typha: write fault\n"
 note_of Memory = codes "typha: out of memory\n"
-note_of TooMuch = codes "typha: too much input\n"
 note_of (Fault f) = fault_note f
 note_of (Cut left) = numbered (codes "typha: stream cut ") left (codes "\n")
 

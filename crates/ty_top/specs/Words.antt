@@ -1,13 +1,21 @@
 -- The command line's words.
-use Rattle.std.specs.Prelude.{ℕ, true, false, List, [], ◌∷◌, codes, Option, None, Some, if◌then◌else◌}
+use Rattle.std.specs.Prelude.{ℕ, ◌^◌, nat_le, true, false, List, [], ◌∷◌, codes, Option, None, Some, if◌then◌else◌}
 use Rattle.std.specs.Str.{bytes_eq}
+use Rattle.ty_base.specs.Numbers.{read_number}
 use Rattle.ty_top.specs.declared.words.Command.{Command}
 use Rattle.ty_top.specs.declared.words.Command.TheVariants.{Stream, Follow}
 
--- `stream` takes no option
+-- a breadcrumb's number is at most 2^40
+abbrev pub stream_from : Option ℕ → Option Command
+stream_from None = None
+stream_from (Some n) = if nat_le n (2 ^ 40) then Some (Stream n) else None
+
+-- `stream` takes `--from` and a number, once
 abbrev pub stream_with : List (List ℕ) → Option Command
-stream_with [] = Some Stream
-stream_with (o ∷ os) = None
+stream_with [] = Some (Stream 0)
+stream_with (o ∷ []) = None
+stream_with (o ∷ n ∷ []) = if bytes_eq o (codes "--from") then stream_from (read_number n) else None
+stream_with (o ∷ n ∷ p ∷ os) = None
 
 -- `follow` takes `--brief`, once
 abbrev pub follow_with : List (List ℕ) → Option Command

@@ -1,9 +1,10 @@
 // How a run ends.
 ghost use Rattle.std.specs.Prelude.{◌≡◌, ◌⊎◌};
 ghost use Rattle.ty_client.specs.declared.fault.StreamFault.{StreamFault as Fault};
-ghost use Rattle.ty_top.specs.Endings.{status_of, fault_status as fault_status_of};
+ghost use Rattle.ty_top.specs.Endings.{status_of, fault_status as fault_status_of, feed_status as feed_status_of};
 
 use ty_client::StreamFault;
+use ty_intake::IntakeFault;
 use ty_wire::WireFault;
 
 /// What the program does with the words, and its exit status.
@@ -20,16 +21,14 @@ pub(crate) enum Ending {
     Done,
     /// The words are refused.
     Usage,
-    /// This line, counted from 1, is the first bad one.
-    Line(u64),
+    /// The feed has this fault.
+    Feed(IntakeFault),
     /// The source failed.
     Read,
     /// The sink failed.
     Write,
     /// Memory ran out.
     Memory,
-    /// Byte number 2^40 was taken.
-    TooMuch,
     /// The connection's bytes have this fault.
     Fault(StreamFault),
     /// The connection's end came inside a frame, of which there are so many bytes.
@@ -45,12 +44,11 @@ impl Ending {
         match self {
             Ending::Done => 0,
             Ending::Usage => 1,
-            Ending::Line(_) => 2,
+            Ending::Feed(fault) => feed_status(fault),
             Ending::Read => 3,
             Ending::Write => 4,
             Ending::Memory => 5,
             Ending::Fault(fault) => fault_status(fault),
-            Ending::TooMuch => 8,
             Ending::Cut(_) => 9,
         }
     }
@@ -63,5 +61,14 @@ fn fault_status(fault: StreamFault) -> u8
     match fault {
         StreamFault::Wire(WireFault::TooMuch) => 8,
         _ => 6,
+    }
+}
+
+fn feed_status(fault: IntakeFault) -> u8
+    ensures { result ≡ feed_status_of fault }
+{
+    match fault {
+        IntakeFault::TooMuch => 8,
+        _ => 2,
     }
 }

@@ -5,13 +5,15 @@ mod ending;
 mod following;
 mod laws;
 mod notes;
-mod stream;
+mod plain;
+mod publishing;
 mod streaming;
 mod top;
 mod words;
 
 pub use ending::Local;
 pub use laws::{streams_rebuild_the_worlds, whole_streams_rebuild_every_world};
+pub use plain::plain_stream;
 pub use top::local;
 
 #[cfg(test)]

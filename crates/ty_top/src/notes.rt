@@ -4,12 +4,13 @@ ghost use Rattle.std.specs.Io.KnownBytes.{Appends};
 ghost use Rattle.ty_base.specs.Causes.{HasCause};
 ghost use Rattle.ty_base.specs.Fronts.{AppendsFront};
 ghost use Rattle.ty_client.specs.declared.fault.StreamFault.TheVariants.{Wire};
-ghost use Rattle.ty_top.specs.Notes.{note_of, fault_note, numbered, numbered_twice, rising_note, IsTold};
+ghost use Rattle.ty_top.specs.Notes.{note_of, fault_note, feed_note, numbered, numbered_twice, rising_note, IsTold};
 
 use crate::ending::Ending;
 use itoa::Buffer;
 use ty_base::{Failed, Sink, give_all};
 use ty_client::StreamFault;
+use ty_intake::IntakeFault;
 use ty_wire::WireFault;
 
 // Tells of the ending. A fault of the notes changes nothing else.
@@ -30,13 +31,40 @@ fn try_tell<E: Sink>(notes: &mut E, ending: Ending) -> Result<(), Failed>
     match ending {
         Ending::Done => give_all(notes, b""),
         Ending::Usage => give_all(notes, USAGE),
-        Ending::Line(line) => give_numbered(notes, b"typha: line ", line, b": not a feed line\n"),
+        Ending::Feed(fault) => tell_feed(notes, fault),
         Ending::Read => give_all(notes, b"typha: read fault\n"),
         Ending::Write => give_all(notes, b"typha: write fault\n"),
         Ending::Memory => give_all(notes, b"typha: out of memory\n"),
-        Ending::TooMuch => give_all(notes, b"typha: too much input\n"),
         Ending::Fault(fault) => tell_fault(notes, fault),
         Ending::Cut(left) => give_numbered(notes, b"typha: stream cut ", left, b"\n"),
+    }
+}
+
+fn tell_feed<E: Sink>(notes: &mut E, fault: IntakeFault) -> Result<(), Failed>
+    ensures ok { OnOk result (Appends (E.held notes.old) (E.held notes.new) (feed_note fault)) }
+    ensures err { OnErr result (AppendsFront (E.held notes.old) (E.held notes.new) (feed_note fault)) }
+    ensures cause { HasCause (E.count notes.old) (E.count notes.new) result }
+{
+    match fault {
+        IntakeFault::LongLine { line } => give_numbered(
+            notes,
+            b"typha: line ",
+            line,
+            b": too long\n",
+        ),
+        IntakeFault::BadUtf8 { line } => give_numbered(
+            notes,
+            b"typha: line ",
+            line,
+            b": not UTF-8\n",
+        ),
+        IntakeFault::BadLine { line } => give_numbered(
+            notes,
+            b"typha: line ",
+            line,
+            b": not a feed line\n",
+        ),
+        IntakeFault::TooMuch => give_all(notes, b"typha: too much input\n"),
     }
 }
 

@@ -1,15 +1,15 @@
 // The top call, over anything that gives and takes bytes.
-ghost use Rattle.std.specs.Prelude.{◌≡◌, ◌↔◌, ◌⊎◌, ◌^◌, Bool, List, ℕ, [], Option, None, Some, length};
+ghost use Rattle.std.specs.Prelude.{◌≡◌, ◌≢◌, ◌↔◌, ◌⊎◌, ◌^◌, Bool, List, ℕ, [], Option, None, Some, length};
 ghost use Rattle.std.specs.Io.KnownBytes.{Appends, Consumes};
 ghost use Rattle.ty_base.specs.Causes.{Rose};
 ghost use Rattle.ty_base.specs.Fronts.{AppendsFront};
-ghost use Rattle.ty_intake.specs.Lines.{lines};
-ghost use Rattle.ty_intake.specs.Items.{first_bad};
+ghost use Rattle.ty_intake.specs.declared.intake.IntakeFault.{IntakeFault};
+ghost use Rattle.ty_wire.specs.declared.splitting.WireFault.{WireFault};
 ghost use Rattle.ty_client.specs.Following.{Ended, StoppedBy};
 ghost use Rattle.ty_client.specs.declared.fault.StreamFault.{StreamFault};
 ghost use Rattle.ty_client.specs.declared.following.FollowFault.TheVariants as faults;
 ghost use Rattle.ty_top.specs.Words.{command_of};
-ghost use Rattle.ty_top.specs.Endings.{seen, Came, Streams, Follows, ReadsAll, IsGood, stated, status_of};
+ghost use Rattle.ty_top.specs.Endings.{seen, Came, Streams, Follows, status_of};
 ghost use Rattle.ty_top.specs.Notes.{IsTold, note_of};
 ghost use Rattle.ty_top.specs.declared.ending.Ending.{Ending};
 ghost use Rattle.ty_top.specs.declared.words.Command.TheVariants.{Stream, Follow};
@@ -42,20 +42,24 @@ pub fn local<S: Source, K: Sink, E: Sink>(
     ensures write { result ≡ Local.Done 4 → Rose (K.count sink.old) (K.count sink.new) }
 
     // `stream`
-    ensures streamed { command_of words.now ≡ Some Stream → result ≡ Local.Done 0 → (feed : List ℕ)
-        × ReadsAll (S.left source.old) (S.left source.new) feed × IsGood feed
-        × Appends (K.held sink.old) (K.held sink.new) (stated feed) }
-    ensures line { command_of words.now ≡ Some Stream → result ≡ Local.Done 2 → (feed : List ℕ) × (n : ℕ)
-        × ReadsAll (S.left source.old) (S.left source.new) feed × (first_bad 0 (lines feed) ≡ Some n)
-        × (K.held sink.new ≡ K.held sink.old) }
-    ensures unread { command_of words.now ≡ Some Stream → result ≡ Local.Done 3 → K.held sink.new ≡ K.held sink.old }
-    ensures unwritten { command_of words.now ≡ Some Stream → result ≡ Local.Done 4 → (feed : List ℕ)
-        × ReadsAll (S.left source.old) (S.left source.new) feed × IsGood feed
-        × AppendsFront (K.held sink.old) (K.held sink.new) (stated feed) }
-    ensures memory { command_of words.now ≡ Some Stream → result ≡ Local.Done 5 → K.held sink.new ≡ K.held sink.old }
-    ensures too_much { command_of words.now ≡ Some Stream → result ≡ Local.Done 8 → (bytes : List ℕ)
-        × Consumes (S.left source.old) (S.left source.new) bytes × (length bytes ≡ 2 ^ 40)
-        × (K.held sink.new ≡ K.held sink.old) }
+    ensures streamed { (j : ℕ) → command_of words.now ≡ Some (Stream j) → result ≡ Local.Done 0
+        → Streams j Ending.Done (seen (S.left source.old) (S.count source.old) (K.held sink.old) (K.count sink.old))
+        (seen (S.left source.new) (S.count source.new) (K.held sink.new) (K.count sink.new)) }
+    ensures line { (j : ℕ) → command_of words.now ≡ Some (Stream j) → result ≡ Local.Done 2 → (fault : IntakeFault) × (fault ≢ IntakeFault.TooMuch)
+        × Streams j (Ending.Feed fault) (seen (S.left source.old) (S.count source.old) (K.held sink.old) (K.count sink.old))
+        (seen (S.left source.new) (S.count source.new) (K.held sink.new) (K.count sink.new)) }
+    ensures unread { (j : ℕ) → command_of words.now ≡ Some (Stream j) → result ≡ Local.Done 3
+        → Streams j Ending.Read (seen (S.left source.old) (S.count source.old) (K.held sink.old) (K.count sink.old))
+        (seen (S.left source.new) (S.count source.new) (K.held sink.new) (K.count sink.new)) }
+    ensures unwritten { (j : ℕ) → command_of words.now ≡ Some (Stream j) → result ≡ Local.Done 4
+        → Streams j Ending.Write (seen (S.left source.old) (S.count source.old) (K.held sink.old) (K.count sink.old))
+        (seen (S.left source.new) (S.count source.new) (K.held sink.new) (K.count sink.new)) }
+    ensures memory { (j : ℕ) → command_of words.now ≡ Some (Stream j) → result ≡ Local.Done 5
+        → Streams j Ending.Memory (seen (S.left source.old) (S.count source.old) (K.held sink.old) (K.count sink.old))
+        (seen (S.left source.new) (S.count source.new) (K.held sink.new) (K.count sink.new)) }
+    ensures too_much { (j : ℕ) → command_of words.now ≡ Some (Stream j) → result ≡ Local.Done 8
+        → Streams j (Ending.Feed IntakeFault.TooMuch) (seen (S.left source.old) (S.count source.old) (K.held sink.old) (K.count sink.old))
+        (seen (S.left source.new) (S.count source.new) (K.held sink.new) (K.count sink.new)) }
 
     // `follow`
     ensures followed { (brief : Bool) → command_of words.now ≡ Some (Follow brief) → result ≡ Local.Done 0
@@ -67,9 +71,21 @@ pub fn local<S: Source, K: Sink, E: Sink>(
     ensures cut { (brief : Bool) → command_of words.now ≡ Some (Follow brief) → result ≡ Local.Done 9 → (left : ℕ)
         × StoppedBy brief (seen (S.left source.old) (S.count source.old) (K.held sink.old) (K.count sink.old))
         (seen (S.left source.new) (S.count source.new) (K.held sink.new) (K.count sink.new)) (faults.Cut left) }
+    ensures follow_unread { (brief : Bool) → command_of words.now ≡ Some (Follow brief) → result ≡ Local.Done 3
+        → StoppedBy brief (seen (S.left source.old) (S.count source.old) (K.held sink.old) (K.count sink.old))
+        (seen (S.left source.new) (S.count source.new) (K.held sink.new) (K.count sink.new)) faults.Read }
+    ensures follow_unwritten { (brief : Bool) → command_of words.now ≡ Some (Follow brief) → result ≡ Local.Done 4
+        → StoppedBy brief (seen (S.left source.old) (S.count source.old) (K.held sink.old) (K.count sink.old))
+        (seen (S.left source.new) (S.count source.new) (K.held sink.new) (K.count sink.new)) faults.Write }
+    ensures follow_memory { (brief : Bool) → command_of words.now ≡ Some (Follow brief) → result ≡ Local.Done 5
+        → StoppedBy brief (seen (S.left source.old) (S.count source.old) (K.held sink.old) (K.count sink.old))
+        (seen (S.left source.new) (S.count source.new) (K.held sink.new) (K.count sink.new)) faults.NoMemory }
+    ensures follow_too_much { (brief : Bool) → command_of words.now ≡ Some (Follow brief) → result ≡ Local.Done 8
+        → StoppedBy brief (seen (S.left source.old) (S.count source.old) (K.held sink.old) (K.count sink.old))
+        (seen (S.left source.new) (S.count source.new) (K.held sink.new) (K.count sink.new)) (faults.Stream (StreamFault.Wire WireFault.TooMuch)) }
 
     // Where no device fails, only the input and want of memory stand in the way.
-    ensures complete_stream { command_of words.now ≡ Some Stream → (Rose (S.count source.old) (S.count source.new) → ⊥)
+    ensures complete_stream { (j : ℕ) → command_of words.now ≡ Some (Stream j) → (Rose (S.count source.old) (S.count source.new) → ⊥)
         → (Rose (K.count sink.old) (K.count sink.new) → ⊥)
         → (result ≡ Local.Done 0) ⊎ ((result ≡ Local.Done 2) ⊎ ((result ≡ Local.Done 5) ⊎ (result ≡ Local.Done 8))) }
     ensures complete_follow { (brief : Bool) → command_of words.now ≡ Some (Follow brief)
@@ -85,14 +101,14 @@ fn run<S: Source, K: Sink>(alloc: Global, words: &[Text], source: &mut S, sink: 
     ensures came { Came (command_of words.now) result (seen (S.left source.old) (S.count source.old) (K.held sink.old) (K.count sink.old))
         (seen (S.left source.new) (S.count source.new) (K.held sink.new) (K.count sink.new)) }
     ensures usage { (result ≡ Ending.Usage) ↔ (command_of words.now ≡ None) }
-    ensures streams { command_of words.now ≡ Some Stream → Streams result (seen (S.left source.old) (S.count source.old) (K.held sink.old) (K.count sink.old))
+    ensures streams { (j : ℕ) → command_of words.now ≡ Some (Stream j) → Streams j result (seen (S.left source.old) (S.count source.old) (K.held sink.old) (K.count sink.old))
         (seen (S.left source.new) (S.count source.new) (K.held sink.new) (K.count sink.new)) }
     ensures follows { (brief : Bool) → command_of words.now ≡ Some (Follow brief) → Follows brief result (seen (S.left source.old) (S.count source.old) (K.held sink.old) (K.count sink.old))
         (seen (S.left source.new) (S.count source.new) (K.held sink.new) (K.count sink.new)) }
 {
     match read_words(words) {
         None => Ending::Usage,
-        Some(Command::Stream) => stream_source(alloc, source, sink),
+        Some(Command::Stream { from }) => stream_source(alloc, from, source, sink),
         Some(Command::Follow { brief }) => follow_source(alloc, brief, source, sink),
     }
 }

@@ -1,15 +1,15 @@
 // The command line's words.
 ghost use Rattle.std.specs.Prelude.{◌≡◌};
 ghost use Rattle.std.specs.Str.{bytes_eq};
-ghost use Rattle.ty_top.specs.Words.{command_of, mode_with, stream_with as stream_of, follow_with as follow_of};
+ghost use Rattle.ty_top.specs.Words.{command_of, mode_with, stream_with as stream_of, stream_from as stream_from_of, follow_with as follow_of};
 
-use ty_base::Text;
+use ty_base::{Text, read_u64};
 
 /// What the words ask for.
 #[derive(Clone, Copy, Debug, PartialEq, Eq)]
 pub(crate) enum Command {
-    /// The talk over the feed that is the source.
-    Stream,
+    /// The talk over the feed that is the source, from this breadcrumb on.
+    Stream { from: u64 },
     /// The text of what a client rebuilds from the connection that is the source, perhaps without its pairs.
     Follow { brief: bool },
 }
@@ -39,9 +39,25 @@ fn stream_with(options: &[Text]) -> Option<Command>
     ensures { result ≡ stream_of options.now }
 {
     if options.is_empty() {
-        Some(Command::Stream)
+        return Some(Command::Stream { from: 0 });
+    }
+    if options.len() != 2 {
+        return None;
+    }
+    if is(&options[0], "--from") {
+        stream_from(read_u64(options[1].bytes()))
     } else {
         None
+    }
+}
+
+// A breadcrumb's number is at most 2^40.
+fn stream_from(number: Option<u64>) -> Option<Command>
+    ensures { result ≡ stream_from_of number }
+{
+    match number {
+        Some(from) if from <= 1 << 40 => Some(Command::Stream { from }),
+        _ => None,
     }
 }
 

@@ -1,10 +1,95 @@
-use Rattle.std.proofs.Common.{List, ℕ, sym, subst}
-use Rattle.ty_top.specs.Endings.{ReadsAll}
-use Rattle.ty_top.proofs.Ends.{came_of}
+use Rattle.std.proofs.Common.{◌≡◌, ◌<◌, ◌≤◌, ◌^◌, rules, arith, refl, sym, ◌∙◌, ap, take, length, subst, List, ℕ}
+use Rattle.std.proofs.lemmas.Grind.{common_steps}
+use Rattle.std.specs.Prelude.{Option}
+use Rattle.std.specs.Io.KnownBytes.{Appends, Consumes}
+use Rattle.ty_base.proofs.Known.{Consumes-same, Consumes-kept}
+use Rattle.ty_client.specs.Following.{Seen}
+use Rattle.ty_client.proofs.Followed.{take_same, length_take, consumed_end}
+use Rattle.ty_top.specs.declared.publishing.Unwritten.TheVariants.{Sink, Memory as Short}
+use Rattle.ty_top.proofs.ReadSoFar.{first_crumb, opening_unwritten, opening_short, whole_front, short_first, reading_begins, reading_more, reading_short, reading_failed, reading_stops, reading_ends, rose_later}
 use Rattle.ty_top.proofs.streaming.stream_source.Goals as goal
 
-pub returns-in-Ok : goal.returns-in-Ok
-returns-in-Ok g c =
-    let feed = c.deref.result.now in
-    let P : List ℕ → Type 0 = λ bytes. ReadsAll (g.S.Source.left c.args.source.now) (g.S.Source.left c.read_all.new.source) bytes in
-    came_of feed c.stream_feed.result _ _ _ _ _ _ _ _ (subst P (sym c.deref.ensures.value) (c.in-Ok.ensures.all.0, c.in-Ok.ensures.all.1, c.in-Ok.ensures.short)) c.stream_feed.ensures
+pub give_opening-requires : goal.give_opening-requires
+give_opening-requires g c = first_crumb c.first-crumb.result c.first-crumb.ensures.stands
+
+pub returns-in-Err-Sink : goal.returns-in-Err-Sink
+returns-in-Err-Sink g c =
+    let old : Seen = record { left = g.S.Source.left c.args.source.now; source_faults = g.S.Source.count c.args.source.now; held = g.K.Sink.held c.args.sink.now; sink_faults = g.K.Sink.count c.args.sink.now } in
+    let new : Seen = record { left = g.S.Source.left c.args.source.now; source_faults = g.S.Source.count c.args.source.now; held = g.K.Sink.held c.give_opening.new.sink; sink_faults = g.K.Sink.count c.give_opening.new.sink } in
+    opening_unwritten c.in-Err-Sink.field-0 c.args.from old new c.in-Err-Sink.field-0-is (Consumes-same _) c.in-Err-Sink.ensures
+
+pub returns-in-Err-Memory : goal.returns-in-Err-Memory
+returns-in-Err-Memory g c =
+    let old : Seen = record { left = g.S.Source.left c.args.source.now; source_faults = g.S.Source.count c.args.source.now; held = g.K.Sink.held c.args.sink.now; sink_faults = g.K.Sink.count c.args.sink.now } in
+    let new : Seen = record { left = g.S.Source.left c.args.source.now; source_faults = g.S.Source.count c.args.source.now; held = g.K.Sink.held c.give_opening.new.sink; sink_faults = g.K.Sink.count c.give_opening.new.sink } in
+    opening_short c.in-Err-Memory.field-0 c.args.from old new c.in-Err-Memory.field-0-is (Consumes-same _) c.in-Err-Memory.ensures
+
+pub returns-in_default : goal.returns-in_default
+returns-in_default g c =
+    let old : Seen = record { left = g.S.Source.left c.args.source.now; source_faults = g.S.Source.count c.args.source.now; held = g.K.Sink.held c.args.sink.now; sink_faults = g.K.Sink.count c.args.sink.now } in
+    let new : Seen = record { left = g.S.Source.left c.args.source.now; source_faults = g.S.Source.count c.args.source.now; held = g.K.Sink.held c.give_opening.new.sink; sink_faults = g.K.Sink.count c.give_opening.new.sink } in
+    short_first c.args.from old new (Consumes-same _) (whole_front _ _ _ c.in-Ok.ensures.0)
+
+pub loop-taken-init : goal.loop-taken-init
+loop-taken-init g c = record {
+  piece = grind (arith, common_steps);
+  reading = reading_begins c.args.from c.new-intake.result c.first-crumb.result _ _ _ (Consumes-same _) c.new-intake.ensures (first_crumb c.first-crumb.result c.first-crumb.ensures.stands) c.in-Ok.ensures.0;
+  reads = omega arith;
+  writes = c.in-Ok.ensures.1;
+}
+
+pub unreachable-requires : goal.unreachable-requires
+unreachable-requires g c =
+    let short : c.loop-taken.taken < 2 ^ 40 = reading_short _ _ _ _ _ _ _ _ c.loop-taken.invariant.reading in
+    absurd (omega (arith, short))
+
+pub returns-in_default-take : goal.returns-in_default-take
+returns-in_default-take g c =
+    let old : Seen = record { left = g.S.Source.left c.args.source.now; source_faults = g.S.Source.count c.args.source.now; held = g.K.Sink.held c.args.sink.now; sink_faults = g.K.Sink.count c.args.sink.now } in
+    let new : Seen = record { left = g.S.Source.left c.take.new.self; source_faults = g.S.Source.count c.take.new.self; held = g.K.Sink.held c.loop-taken.sink; sink_faults = g.K.Sink.count c.loop-taken.sink } in
+    let r = c.loop-taken.invariant.reading in
+    reading_failed c.args.from c.loop-taken.intake c.loop-taken.crumb old new (g.S.Source.left c.loop-taken.source) (g.K.Sink.held c.loop-taken.sink) c.loop-taken.taken r
+    (Consumes-kept _ _ _ _ r.consumed c.in_default-take.ensures.bytes) refl (rose_later _ _ _ c.loop-taken.invariant.reads (c.in_default-take.ensures.cause.failed))
+
+pub returns-then-count-eq0 : goal.returns-then-count-eq0
+returns-then-count-eq0 g c =
+    let old : Seen = record { left = g.S.Source.left c.args.source.now; source_faults = g.S.Source.count c.args.source.now; held = g.K.Sink.held c.args.sink.now; sink_faults = g.K.Sink.count c.args.sink.now } in
+    let new : Seen = record { left = g.S.Source.left c.take.new.self; source_faults = g.S.Source.count c.take.new.self; held = g.K.Sink.held c.finish.new.sink; sink_faults = g.K.Sink.count c.finish.new.sink } in
+    let r = c.loop-taken.invariant.reading in
+    let some : 0 < length c.take.new.buf = search rules in
+    reading_ends c.args.from c.loop-taken.intake c.loop-taken.crumb old new (g.S.Source.left c.loop-taken.source) (g.K.Sink.held c.loop-taken.sink) c.loop-taken.taken r c.finish.result (g.K.Sink.count c.loop-taken.sink)
+    (consumed_end old.left (g.S.Source.left c.loop-taken.source) new.left r.feed.bytes c.take.new.buf c.in-Ok-take.count r.consumed c.in-Ok-take.ensures.bytes.0 c.if-count-eq0.true)
+    (c.in-Ok-take.ensures.bytes.1 c.if-count-eq0.true some) c.loop-taken.invariant.writes (c.finish.ensures.read r.feed r.read_to)
+
+pub returns-in-Err : goal.returns-in-Err
+returns-in-Err g c =
+    let old : Seen = record { left = g.S.Source.left c.args.source.now; source_faults = g.S.Source.count c.args.source.now; held = g.K.Sink.held c.args.sink.now; sink_faults = g.K.Sink.count c.args.sink.now } in
+    let new : Seen = record { left = g.S.Source.left c.take.new.self; source_faults = g.S.Source.count c.take.new.self; held = g.K.Sink.held c.read_piece.new.sink; sink_faults = g.K.Sink.count c.read_piece.new.sink } in
+    let r = c.loop-taken.invariant.reading in
+    let fits : c.in-Ok-take.count ≤ length c.take.new.buf = search rules in
+    let room : c.in-Ok-take.count ≤ c.loop-taken.piece.len = search rules in
+    let same : take c.in-Ok-take.count c.deref.result.now ≡ take c.in-Ok-take.count c.take.new.buf =
+    ap (λ (x : List ℕ). take c.in-Ok-take.count x) c.deref.ensures.value ∙ take_same c.in-Ok-take.count c.loop-taken.piece.len c.take.new.buf c.loop-taken.piece.items fits room in
+    let consumes : Consumes (g.S.Source.left c.loop-taken.source) (g.S.Source.left c.take.new.self) (take c.in-Ok-take.count c.deref.result.now) =
+    subst (λ (x : List ℕ). Consumes (g.S.Source.left c.loop-taken.source) (g.S.Source.left c.take.new.self) x) (sym same) c.in-Ok-take.ensures.bytes.0 in
+    reading_stops c.args.from c.loop-taken.intake c.loop-taken.crumb old new (g.S.Source.left c.loop-taken.source) (g.K.Sink.held c.loop-taken.sink) c.loop-taken.taken r
+    c.in-Err.ending c.read_piece.new.intake c.read_piece.new.crumb (take c.in-Ok-take.count c.deref.result.now) (g.K.Sink.count c.loop-taken.sink) consumes c.loop-taken.invariant.writes (c.in-Err.ensures.read r.feed r.read_to)
+
+pub loop-taken-preserved : goal.loop-taken-preserved
+loop-taken-preserved g c =
+    let r = c.loop-taken.invariant.reading in
+    let fits : c.in-Ok-take.count ≤ length c.take.new.buf = search rules in
+    let room : c.in-Ok-take.count ≤ c.loop-taken.piece.len = search rules in
+    let same : take c.in-Ok-take.count c.deref.result.now ≡ take c.in-Ok-take.count c.take.new.buf =
+    ap (λ (x : List ℕ). take c.in-Ok-take.count x) c.deref.ensures.value ∙ take_same c.in-Ok-take.count c.loop-taken.piece.len c.take.new.buf c.loop-taken.piece.items fits room in
+    let consumes : Consumes (g.S.Source.left c.loop-taken.source) (g.S.Source.left c.take.new.self) (take c.in-Ok-take.count c.deref.result.now) =
+    subst (λ (x : List ℕ). Consumes (g.S.Source.left c.loop-taken.source) (g.S.Source.left c.take.new.self) x) (sym same) c.in-Ok-take.ensures.bytes.0 in
+    let counted : c.in-Ok-take.count ≡ length (take c.in-Ok-take.count c.deref.result.now) = length_take c.in-Ok-take.count c.take.new.buf fits ∙ ap (λ (x : List ℕ). length x) (sym same) in
+    record {
+      piece = search rules;
+      reading = reading_more c.args.from c.loop-taken.intake c.loop-taken.crumb (g.S.Source.left c.args.source.now) (g.S.Source.left c.loop-taken.source) (g.K.Sink.held c.args.sink.now) (g.K.Sink.held c.loop-taken.sink) c.loop-taken.taken r
+          c.read_piece.new.intake c.read_piece.new.crumb (g.S.Source.left c.take.new.self) (g.K.Sink.held c.read_piece.new.sink) c.in-Ok-take.count (take c.in-Ok-take.count c.deref.result.now)
+          (g.K.Sink.count c.loop-taken.sink) (g.K.Sink.count c.read_piece.new.sink) consumes counted (c.in-Ok-read_piece.ensures.read r.feed r.read_to);
+      reads = omega (arith, c.loop-taken.invariant.reads, c.in-Ok-take.ensures.cause.later);
+      writes = omega (arith, c.loop-taken.invariant.writes, c.in-Ok-read_piece.ensures.later);
+    }
