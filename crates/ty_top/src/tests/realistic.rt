@@ -72,19 +72,16 @@ fn length_of(lines: usize) -> usize {
 fn a_source_that_fails_leaves_the_breadcrumbs_before(rt: HostRuntime) -> Result<(), Fail> {
     let alloc = rt.alloc();
     let feed = joined(alloc, &LINES)?;
-    let mut before: usize = 0;
-    let mut call: u64 = 1;
-    while before < feed.len() {
+    for pieces in 0..27usize {
         let devices = Devices {
             piece: 64,
-            read_fails: call,
+            read_fails: pieces as u64 + 1,
             ..GOOD
         };
         let ran = run(alloc, &["stream"], &feed, devices)?;
-        let wanted = framed(alloc, BODIES.split_at(frames_by(before).min(12)).0)?;
+        let frames = frames_by(64 * pieces).min(12);
+        let wanted = framed(alloc, BODIES.split_at(frames).0)?;
         assert!(rt; came(&ran, 3, &wanted, "typha: read fault\n"));
-        before = before.saturating_add(64);
-        call = call.saturating_add(1);
     }
     Ok(())
 }
