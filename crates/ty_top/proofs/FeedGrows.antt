@@ -57,10 +57,10 @@ lines_more feed now piece e f b =
     let m = cut_more (take n feed.bytes) (take (n - length feed.bytes) piece) in (
       m.0,
       lines_open now f
-      ∙ ap (λ l. (cut_lines (take n l)).lines) b
-      ∙ ap (λ l. (cut_lines l).lines) (take_parts n feed.bytes piece)
-      ∙ m.1
-      ∙ ap (λ l. l ++ m.0) (sym (lines_open feed e)),
+          ∙ ap (λ l. (cut_lines (take n l)).lines) b
+          ∙ ap (λ l. (cut_lines l).lines) (take_parts n feed.bytes piece)
+          ∙ m.1
+          ∙ ap (λ l. l ++ m.0) (sym (lines_open feed e)),
     )
 
 -- items
@@ -71,12 +71,12 @@ good_more (l ∷ ls) more =
     let m = good_more ls more in
     elim (is_good l) as (λ b. (rest : List Item) × (filter_map item_by (take (cond b (1 + prefix_len is_good (ls ++ more)) 0) (l ∷ (ls ++ more))) ≡ filter_map item_by (take (cond b (1 + prefix_len is_good ls) 0) (l ∷ ls)) ++ rest)) [
       | true ↦ (
-          m.0,
-          ap (λ k. filter_map item_by (take k (l ∷ (ls ++ more)))) (one_more (prefix_len is_good (ls ++ more)))
-          ∙ ap (cons_option (item_by l)) m.1
-          ∙ consed (item_by l) (filter_map item_by (take_while is_good ls)) m.0
-          ∙ ap (λ k. filter_map item_by (take k (l ∷ ls)) ++ m.0) (sym (one_more (prefix_len is_good ls))),
-        )
+        m.0,
+        ap (λ k. filter_map item_by (take k (l ∷ (ls ++ more)))) (one_more (prefix_len is_good (ls ++ more)))
+            ∙ ap (cons_option (item_by l)) m.1
+            ∙ consed (item_by l) (filter_map item_by (take_while is_good ls)) m.0
+            ∙ ap (λ k. filter_map item_by (take k (l ∷ ls)) ++ m.0) (sym (one_more (prefix_len is_good ls))),
+      )
       | false ↦ ([], refl)
     ]
   where
@@ -131,10 +131,10 @@ module _ (items more : List Item) where
       let qs : List ℕ = filter test (range_with_len (n + 1) (length more)) in (
         batches_between (items ++ more) (last_of 0 ps) qs,
         ap (λ k. batches_between (items ++ more) 0 (filter test (range_with_len 1 k))) (length-append items more)
-        ∙ ap (λ l. batches_between (items ++ more) 0 (filter test l)) (range_split n 1 (length more) (n + 1) (omega arith))
-        ∙ ap (batches_between (items ++ more) 0) (filter-append test (range_with_len 1 n) (range_with_len (n + 1) (length more)))
-        ∙ batches_split (items ++ more) ps qs 0
-        ∙ ap (λ l. l ++ batches_between (items ++ more) (last_of 0 ps) qs) (same_batches n 0 0 (omega arith) (omega arith)),
+            ∙ ap (λ l. batches_between (items ++ more) 0 (filter test l)) (range_split n 1 (length more) (n + 1) (omega arith))
+            ∙ ap (batches_between (items ++ more) 0) (filter-append test (range_with_len 1 n) (range_with_len (n + 1) (length more)))
+            ∙ batches_split (items ++ more) ps qs 0
+            ∙ ap (λ l. l ++ batches_between (items ++ more) (last_of 0 ps) qs) (same_batches n 0 0 (omega arith) (omega arith)),
       )
 
 pub batches_grow : (feed now : Feed) (piece : List ℕ) → feed.ended ≡ false → now.ended ≡ false → now.bytes ≡ feed.bytes ++ piece → (more : List Closed) × (batches_of now ≡ batches_of feed ++ more)
@@ -144,9 +144,9 @@ batches_grow feed now piece e f b =
     let l = longer_batches (items_of feed) i.0 in (
       l.0,
       ap (λ w. batches w (items_of now)) (open_is now f)
-      ∙ ap (batches false) i.1
-      ∙ l.1
-      ∙ ap (λ w. batches w (items_of feed) ++ l.0) (sym (open_is feed e)),
+          ∙ ap (batches false) i.1
+          ∙ l.1
+          ∙ ap (λ w. batches w (items_of feed) ++ l.0) (sym (open_is feed e)),
     )
   where
     open_is : (x : Feed) → x.ended ≡ false → is_whole x ≡ false

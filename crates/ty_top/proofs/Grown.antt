@@ -83,7 +83,7 @@ book_next before batch closed next =
 
 told_grows : (es : List Entry) (e : Entry) (j : ℕ) → (more : List Msg) × (told (es ++ e ∷ []) j ≡ told es j ++ more)
 told_grows es e j = elim (leb_tells j (length es)) [
-    inl h ↦ (_, told_after es e j h.1)
+  | inl h ↦ (_, told_after es e j h.1)
   | inr h ↦
       let over : length es + 1 ≤ j = omega (arith, h.1) in
       elim (eq-or-lt_of_le over) [ inl i ↦ (_, told_first es e j (sym i)) | inr r ↦ ([], told_before es e j r ∙ sym (append-nil (told es j))) ]
@@ -124,10 +124,10 @@ all_more j ended items (b ∷ rest) done w =
     let go = all_more j ended items rest (done ++ b ∷ []) (w ∙ sym (append_assoc done (b ∷ []) rest)) in (
       one.0 ++ go.0,
       ap (λ (l : List Closed). streamed (joined l) j) (sym (append_assoc done (b ∷ []) rest))
-      ∙ go.1
-      ∙ ap (λ xs. streamed xs j ++ go.0) (joined_more done b)
-      ∙ ap (λ x. x ++ go.0) one.1
-      ∙ append_assoc (streamed (joined done) j) one.0 go.0,
+          ∙ go.1
+          ∙ ap (λ xs. streamed xs j ++ go.0) (joined_more done b)
+          ∙ ap (λ x. x ++ go.0) one.1
+          ∙ append_assoc (streamed (joined done) j) one.0 go.0,
     )
 
 -- A breadcrumb
@@ -140,7 +140,7 @@ crumb_told es e j s c at st =
     let first : List Msg = group (snapshot_of c.pairs) (Some c.status) c.number in
     let later : List Msg = group c.deltas (status_change s c.status) c.number in
     elim (leb_tells j (length es)) [
-        inl h ↦
+      | inl h ↦
           let le : j ≤ length es = h.1 in
           told_after es e j le
           ∙ ap (λ ms. told es j ++ ms) (sym (

@@ -8,3 +8,4 @@ pub mod Published
 pub mod FeedGrows
 pub mod ReadSoFar
 pub mod Ends
+pub mod BothEnds

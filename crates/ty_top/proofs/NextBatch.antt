@@ -204,7 +204,7 @@ module _ (before batch : List Item) (closed : IsClosed before) (next : IsNextBat
 
   few_items : length batch ≤ 100
   few_items = elim (leb_tells (length batch) 100) [
-      inl h ↦ h.1
+    | inl h ↦ h.1
     | inr l ↦
         let h : 100 < length batch = l.1 in
         let zero_left : (suffix_len is_update before + 100) % 100 ≡ 0 = omega (arith, whole_runs) in

@@ -3,6 +3,10 @@ use Rattle.std.proofs.Common.{◌≡◌, ℕ, ◌+◌, ◌<◌, ◌≤◌, ◌^�
 use Rattle.std.specs.Prelude.{Option, None, Some, Result, Ok, Err, is_some}
 use Rattle.std.specs.Option.{option_or}
 use Rattle.std.specs.List.{list_all}
+use Rattle.std.proofs.lemmas.List.Folds.{list_all-append}
+use Rattle.ty_base.proofs.Passing.{both, left, right}
+use Rattle.ty_client.specs.Worlds.{within_limits}
+use Rattle.std.proofs.lemmas.Grind.{flat_map-append}
 use Rattle.std.specs.Io.KnownBytes.{Appends, Consumes, IsAtEnd}
 use Rattle.ty_base.specs.Causes.{Rose}
 use Rattle.ty_base.specs.Fronts.{AppendsFront}
@@ -21,7 +25,7 @@ use Rattle.ty_intake.specs.Batches.{items_of, is_whole, batches, batches_of, bat
 use Rattle.ty_intake.specs.Standing.{Held, Stands as IntakeStands}
 use Rattle.ty_intake.proofs.Joining.{joined-of, few-of, whole-of, none-of}
 use Rattle.ty_top.specs.Streamed.{streamed}
-use Rattle.ty_top.specs.Endings.{Taken, stated, Streams}
+use Rattle.ty_top.specs.Endings.{AreSmall, Taken, stated, Streams}
 use Rattle.ty_top.specs.Publishing.{joined, Gave, CrumbOf, Owed, IsPublished, IsFedPublished, IsReadTo, Stated, StatedPart, IsPieceRead, IsEndRead}
 use Rattle.ty_top.specs.declared.ending.Ending.{Ending}
 use Rattle.ty_top.specs.declared.ending.Ending.TheVariants.{Done, Usage, Feed, Read, Write, Memory, Fault, Cut}
@@ -44,6 +48,12 @@ owed_of c feed now closed k h fits = record {
   crumb_of = subst (CrumbOf c) (sym (joined-of feed)) k;
 }
 
+joined_small : (bs : List Closed) → list_all batch_fits bs ≡ true → AreSmall (joined bs)
+joined_small [] h = refl
+joined_small (b ∷ bs) h =
+    list_all-append within_limits b.items (joined bs)
+    ∙ both (left (batch_fits b) (list_all batch_fits bs) h) (joined_small bs (right (batch_fits b) (list_all batch_fits bs) h))
+
 module _ (j : ℕ) (feed now : FeedSoFar) (closed : List Closed) (h : batches_of now ≡ batches_of feed ++ closed) where
   after_is : joined (batches_of feed ++ closed) ≡ closed_items now
   after_is = ap joined (sym h) ∙ joined-of now
@@ -51,12 +61,18 @@ module _ (j : ℕ) (feed now : FeedSoFar) (closed : List Closed) (h : batches_of
   states : (bytes : List ℕ) → streamed (joined (batches_of feed ++ closed)) j ≡ streamed (joined (batches_of feed)) j ++ bytes → stated j now ≡ stated j feed ++ bytes
   states bytes e = ap (λ l. streamed l j) (sym after_is) ∙ e ∙ ap (λ l. streamed l j ++ bytes) (joined-of feed)
 
-  module _ (d : Crumb) (x y : Option (List ℕ)) (n m : ℕ) where
+  still_small : list_all batch_fits closed ≡ true → AreSmall (closed_items feed) → AreSmall (closed_items now)
+  still_small fits s =
+      ap (list_all within_limits) (sym after_is ∙ flat_map-append (λ b. b.items) (batches_of feed) closed ∙ ap (λ l. l ++ joined closed) (joined-of feed))
+      ∙ list_all-append within_limits (closed_items feed) (joined closed)
+      ∙ both s (joined_small closed fits)
+
+  module _ (fits : list_all batch_fits closed ≡ true) (d : Crumb) (x y : Option (List ℕ)) (n m : ℕ) where
     abbrev Published : Result (Unit {0}) Unwritten → Type 0
     Published r = IsPublished j r d (joined (batches_of feed)) (joined (batches_of feed ++ closed)) x y n m
 
     stated_whole : Published (Ok tt) → Stated j feed now x y
-    stated_whole p = record { bytes = p.bytes; more = states p.bytes p.more; gave = p.gave.0 }
+    stated_whole p = record { bytes = p.bytes; more = states p.bytes p.more; gave = p.gave.0; small = still_small fits }
 
     part_sink : Published (Err Sink) → StatedPart j feed now x y
     part_sink p = record { bytes = p.bytes; more = states p.bytes p.more; gave = p.gave.0 }
@@ -126,6 +142,7 @@ pub record Reading (j : ℕ) (intake : Held) (crumb : Crumb) (left_before left h
   pub consumed : Consumes left_before left feed.bytes
   pub read_to : IsReadTo intake crumb feed
   pub written : Appends held_before held (stated j feed)
+  pub small : AreSmall (closed_items feed)
 
 none_closed : closed_items no_feed ≡ []
 none_closed = sym (joined-of no_feed) ∙ ap joined none-of
@@ -143,6 +160,7 @@ reading_begins j intake crumb l h h' c s k w = record {
   consumed = c;
   read_to = record { stands = s; crumb_of = subst (CrumbOf crumb) (sym none_closed) k };
   written = subst (λ (x : List ℕ). Appends h h' x) (ap (λ l. streamed l j) (sym none_closed)) w;
+  small = ap (list_all within_limits) none_closed;
 }
 
 fed_open : (feed : FeedSoFar) (piece : List ℕ) → feed.ended ≡ false → fed_with feed piece ≡ record feed { bytes = feed.bytes ++ piece }
@@ -171,6 +189,7 @@ module _ (j : ℕ) (intake : Held) (crumb : Crumb) (l l' h h' : Option (List ℕ
     consumed = subst (λ (x : List ℕ). Consumes l l'' x) (sym (fed_bytes piece)) (Consumes-then l l' l'' r.feed.bytes piece r.consumed c);
     read_to = p.0;
     written = written_more (fed_with r.feed piece) h'' p.2;
+    small = p.2.small r.small;
   }
 
 -- Each way out
@@ -224,6 +243,7 @@ module _ (j : ℕ) (intake : Held) (crumb : Crumb) (old new : Seen) (l' h' : Opt
     r.going,
     r.good,
     rose,
+    r.small,
     subst (λ (x : Option (List ℕ)). Appends old.held x (stated j r.feed)) (sym e) r.written,
   )
 
@@ -235,7 +255,7 @@ module _ (j : ℕ) (intake : Held) (crumb : Crumb) (old new : Seen) (l' h' : Opt
 
   pub reading_stops : (ending : Ending) (intake' : Held) (crumb' : Crumb) (piece : List ℕ) (n' : ℕ) → Consumes l' new.left piece → old.sink_faults ≤ n'
       → IsPieceRead j (Err ending) intake' crumb' r.feed (fed_with r.feed piece) h' new.held n' new.sink_faults → Streams j ending old new
-  reading_stops (Feed f) intake' crumb' piece n' c le p = (fed_with r.feed piece, taken_with piece c, p.0, written_more j intake crumb old.left l' old.held h' taken r (fed_with r.feed piece) new.held p.1)
+  reading_stops (Feed f) intake' crumb' piece n' c le p = (fed_with r.feed piece, taken_with piece c, p.0, p.1.small r.small, written_more j intake crumb old.left l' old.held h' taken r (fed_with r.feed piece) new.held p.1)
   reading_stops Write intake' crumb' piece n' c le p =
       (fed_with r.feed piece, taken_with piece c, rose_later old.sink_faults n' new.sink_faults le p.0, written_part j intake crumb old.left l' old.held h' taken r (fed_with r.feed piece) new.held p.1)
   reading_stops Memory intake' crumb' piece n' c le p = (fed_with r.feed piece, taken_with piece c, written_part j intake crumb old.left l' old.held h' taken r (fed_with r.feed piece) new.held p)
@@ -255,9 +275,10 @@ module _ (j : ℕ) (intake : Held) (crumb : Crumb) (old new : Seen) (l' h' : Opt
         taken_all (ended_now r.feed) refl c t,
         refl,
         p.0,
+        subst AreSmall (whole-of (ended_now r.feed) whole) (p.1.small r.small),
         subst (λ (x : List ℕ). Appends old.held new.held x) (ap (λ l. streamed l j) (whole-of (ended_now r.feed) whole)) (written_more j intake crumb old.left l' old.held h' taken r (ended_now r.feed) new.held p.1),
       )
-  reading_ends (Feed f) n' c t le p = (ended_now r.feed, taken_all (ended_now r.feed) refl c t, p.0, written_more j intake crumb old.left l' old.held h' taken r (ended_now r.feed) new.held p.1)
+  reading_ends (Feed f) n' c t le p = (ended_now r.feed, taken_all (ended_now r.feed) refl c t, p.0, p.1.small r.small, written_more j intake crumb old.left l' old.held h' taken r (ended_now r.feed) new.held p.1)
   reading_ends Write n' c t le p =
       (ended_now r.feed, taken_all (ended_now r.feed) refl c t, rose_later old.sink_faults n' new.sink_faults le p.0, written_part j intake crumb old.left l' old.held h' taken r (ended_now r.feed) new.held p.1)
   reading_ends Memory n' c t le p = (p.0, taken_all p.0 p.1 c t, written_part j intake crumb old.left l' old.held h' taken r p.0 new.held p.2)
@@ -293,12 +314,12 @@ module _ (j : ℕ) (feed now : FeedSoFar) (closed : List Closed) (h : batches_of
 
   pub piece_said : (result : Result (Unit {0}) Ending) (intake : Held) (fault : Option IntakeFault) → IntakeStands intake now → fault ≡ fault_of now → Says result fault → IsPieceRead j result intake d feed now x y n m
   unfolding owed_of
-  piece_said result intake fault s e p = piece_read j feed now closed h d x y n m result intake fault s e (p (owed_of c feed now closed k h fits))
+  piece_said result intake fault s e p = piece_read j feed now closed h fits d x y n m result intake fault s e (p (owed_of c feed now closed k h fits))
 
   pub end_said : (fault : Option IntakeFault) → now ≡ ended_now feed → fault ≡ fault_of now → Says (Ok tt) fault → IsEndRead j Done feed x y n m
   unfolding owed_of
-  end_said fault i e p = end_done j feed now closed h d x y n m fault i e (p (owed_of c feed now closed k h fits))
+  end_said fault i e p = end_done j feed now closed h fits d x y n m fault i e (p (owed_of c feed now closed k h fits))
 
   pub end_stopped : (ending : Ending) (fault : Option IntakeFault) → now ≡ ended_now feed → now.bytes ≡ feed.bytes → fault ≡ fault_of now → Says (Err ending) fault → IsEndRead j ending feed x y n m
   unfolding owed_of
-  end_stopped ending fault i b e p = end_err j feed now closed h d x y n m ending fault i b e (p (owed_of c feed now closed k h fits))
+  end_stopped ending fault i b e p = end_err j feed now closed h fits d x y n m ending fault i b e (p (owed_of c feed now closed k h fits))

@@ -1,5 +1,6 @@
 -- How the top call ends: what it read and wrote, its status and its note.
 use Rattle.std.specs.Prelude.{◌≡◌, ℕ, ◌^◌, ◌<◌, ◌≤◌, ◌⊎◌, Bool, true, false, List, [], ◌++◌, length, codes, decimal, Option, None, Some}
+use Rattle.std.specs.List.{list_all}
 use Rattle.std.specs.Io.KnownBytes.{Appends, Consumes, IsAtEnd}
 use Rattle.ty_base.specs.Causes.{Rose}
 use Rattle.ty_base.specs.Fronts.{AppendsFront}
@@ -9,6 +10,8 @@ use Rattle.ty_intake.specs.Batches.{items_of, closed_items}
 use Rattle.ty_intake.specs.declared.intake.IntakeFault.{IntakeFault}
 use Rattle.ty_intake.specs.declared.intake.IntakeFault.TheVariants as feed
 use Rattle.ty_wire.specs.declared.splitting.WireFault.TheVariants as wire
+use Rattle.ty_base.specs.declared.item.Item.{Item}
+use Rattle.ty_client.specs.Worlds.{within_limits}
 use Rattle.ty_client.specs.Following.{Seen, Ended, StoppedBy}
 use Rattle.ty_client.specs.declared.fault.StreamFault.{StreamFault}
 use Rattle.ty_client.specs.declared.fault.StreamFault.TheVariants as stream
@@ -34,13 +37,18 @@ pub record Taken (old new : Seen) (read : FeedSoFar) : Type 0 where
 abbrev pub stated : ℕ → FeedSoFar → List ℕ
 stated j read = streamed (closed_items read) j
 
+-- the items' keys have at most 1,024 bytes and their values at most 1,048,576, all UTF-8 (RFC 3629)
+abbrev pub AreSmall : List Item → Type 0
+AreSmall items = list_all within_limits items ≡ true
+
 -- the cause of each ending of `stream` from breadcrumb j on, and what was read and written
 abbrev pub Streams : ℕ → Ending → Seen → Seen → Type 0
 Streams j Done old new = (read : FeedSoFar) × Taken old new read × (read.ended ≡ true) × (fault_of read ≡ None)
-    × Appends old.held new.held (streamed (items_of read) j)
-Streams j (Feed f) old new = (read : FeedSoFar) × Taken old new read × (fault_of read ≡ Some f) × Appends old.held new.held (stated j read)
+    × AreSmall (items_of read) × Appends old.held new.held (streamed (items_of read) j)
+Streams j (Feed f) old new = (read : FeedSoFar) × Taken old new read × (fault_of read ≡ Some f)
+    × AreSmall (closed_items read) × Appends old.held new.held (stated j read)
 Streams j Read old new = (read : FeedSoFar) × Taken old new read × (read.ended ≡ false) × (fault_of read ≡ None)
-    × Rose old.source_faults new.source_faults × Appends old.held new.held (stated j read)
+    × Rose old.source_faults new.source_faults × AreSmall (closed_items read) × Appends old.held new.held (stated j read)
 Streams j Write old new = (read : FeedSoFar) × Taken old new read × Rose old.sink_faults new.sink_faults
     × AppendsFront old.held new.held (stated j read)
 Streams j Memory old new = (read : FeedSoFar) × Taken old new read × AppendsFront old.held new.held (stated j read)

@@ -18,7 +18,7 @@ use Rattle.ty_intake.specs.Faults.{fault_of}
 use Rattle.ty_intake.specs.Batches.{batches, batch_fits, closed_items}
 use Rattle.ty_intake.specs.Standing.{Held, Stands as IntakeStands}
 use Rattle.ty_top.specs.Streamed.{streamed}
-use Rattle.ty_top.specs.Endings.{stated}
+use Rattle.ty_top.specs.Endings.{AreSmall, stated}
 use Rattle.ty_top.specs.declared.ending.Ending.{Ending}
 use Rattle.ty_top.specs.declared.ending.Ending.TheVariants.{Done, Usage, Feed, Read, Write, Memory, Fault, Cut}
 use Rattle.ty_top.specs.declared.publishing.Unwritten.{Unwritten}
@@ -90,6 +90,7 @@ pub record Stated (j : ℕ) (before now : FeedSoFar) (old new : Option (List ℕ
   pub bytes : List ℕ
   pub more : stated j now ≡ stated j before ++ bytes
   pub gave : Appends old new bytes
+  pub small : AreSmall (closed_items before) → AreSmall (closed_items now)
 
 -- a front of it was
 pub record StatedPart (j : ℕ) (before now : FeedSoFar) (old new : Option (List ℕ)) : Type 0 where

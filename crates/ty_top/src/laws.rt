@@ -1,5 +1,5 @@
 // Laws of the definitions.
-ghost use Rattle.std.specs.Prelude.{◌≡◌, ◌≤◌, ◌<◌, ◌+◌, ◌-◌, ◌^◌, ◌++◌, ◌∷◌, List, ℕ, None, true, length, map};
+ghost use Rattle.std.specs.Prelude.{◌≡◌, ◌≤◌, ◌<◌, ◌+◌, ◌-◌, ◌^◌, ◌++◌, ◌∷◌, Bool, List, ℕ, [], None, Some, true, length, map};
 ghost use Rattle.std.specs.List.{All, list_all, range_with_len};
 ghost use Rattle.ty_base.specs.declared.item.Item.{Item};
 ghost use Rattle.ty_base.specs.Feed.{folded, last, world};
@@ -7,7 +7,14 @@ ghost use Rattle.ty_wire.specs.declared.message.Msg.{Msg};
 ghost use Rattle.ty_client.specs.Rebuilt.{ats};
 ghost use Rattle.ty_client.specs.Heard.{Hears};
 ghost use Rattle.ty_client.specs.Worlds.{IsRising, within_limits, IsWorldAt, rebuilt_at};
+ghost use Rattle.ty_client.specs.Following.{Seen, Ended};
+ghost use Rattle.ty_client.specs.Texts.{text_of};
+ghost use Rattle.ty_intake.specs.Lines.{Feed as FeedSoFar};
+ghost use Rattle.ty_intake.specs.Faults.{fault_of};
+ghost use Rattle.ty_intake.specs.Batches.{items_of};
 ghost use Rattle.ty_top.specs.Streamed.{streamed};
+ghost use Rattle.ty_top.specs.Endings.{Taken, Streams};
+ghost use Rattle.ty_top.specs.declared.ending.Ending.{Ending};
 
 /// Each front of what `stream` writes from breadcrumb j on reads without a fault, its numbers rise, and what is
 /// rebuilt at breadcrumb n has the map and status of the world at n.
@@ -24,4 +31,15 @@ pub fn whole_streams_rebuild_every_world()
         → (ms : List Msg) × Hears (streamed items j) ms None
         × (ats ms ≡ map (rebuilt_at true items) (j ∷ range_with_len (j + 1) (last true items - j))) }
     ensures fold { (items : List Item) → world true items (last true items) ≡ folded items }
+{}
+
+/// Where `stream` ended at status 0, and `follow` reads all that it wrote, `follow` prints the worlds of the feed from
+/// breadcrumb j to the last, each once and in order: at breadcrumb n the fold from scratch of the feed's items up to cut n.
+pub fn both_ends_agree()
+    ensures { (j : ℕ) (brief : Bool) (server server_after client client_after : Seen) (bytes : List ℕ)
+        → Streams j Ending.Done server server_after → server.held ≡ Some [] → server_after.held ≡ Some bytes → length bytes < 2 ^ 40
+        → Ended brief client client_after [] → client.left ≡ Some bytes → client.held ≡ Some []
+        → (read : FeedSoFar) × Taken server server_after read × (fault_of read ≡ None)
+        × (j ≤ last true (items_of read) → client_after.held
+        ≡ Some (text_of brief (map (rebuilt_at true (items_of read)) (j ∷ range_with_len (j + 1) (last true (items_of read) - j))))) }
 {}

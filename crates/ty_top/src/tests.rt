@@ -103,9 +103,7 @@ fn run(alloc: Global, words: &[&str], feed: &[u8], devices: Devices) -> Result<R
 
 // Whether a run ended with this status, gave these bytes and left this note.
 fn came(ran: &Ran, status: u8, given: &[u8], note: &str) -> bool {
-    ran.status == status
-        && ran.given.as_slice() == given
-        && ran.notes.as_slice() == note.as_bytes()
+    ran.status == status && ran.given.as_slice() == given && ran.notes.as_slice() == note.as_bytes()
 }
 
 // Whether a feed, in pieces of several sizes, ends with this status, the frames of these bodies and this note.

@@ -1,5 +1,7 @@
 // Sources and sinks that fail.
-use crate::tests::{CRUMB_0, CRUMB_1, Devices, FEED, GOOD, HELLO, IN_SYNC, READY, WAIT, came, framed, run};
+use crate::tests::{
+    CRUMB_0, CRUMB_1, Devices, FEED, GOOD, HELLO, IN_SYNC, READY, WAIT, came, framed, run,
+};
 use std::alloc::Global;
 use std::test::Fail;
 
@@ -25,7 +27,12 @@ fn a_sink_with_less_room_has_a_front(rt: HostRuntime) -> Result<(), Fail> {
     let alloc = rt.alloc();
     let whole = whole(alloc)?;
     for room in 0..=241usize {
-        let ran = run(alloc, &["stream"], FEED.as_bytes(), Devices { room, ..GOOD })?;
+        let ran = run(
+            alloc,
+            &["stream"],
+            FEED.as_bytes(),
+            Devices { room, ..GOOD },
+        )?;
         assert_eq!(rt; ran.status, if room == 241 { 0 } else { 4 });
         assert!(rt; whole.starts_with(&ran.given));
         assert_eq!(rt; ran.given.len(), room);

@@ -1,6 +1,7 @@
 // Words that are refused, and faults of a feed.
 use crate::tests::{
-    CRUMB_0, CRUMB_1, FEED, GOOD, HELLO, IN_SYNC, IN_SYNC_LINE, READY, READY_LINE, WAIT, came, framed, run, streams,
+    CRUMB_0, CRUMB_1, FEED, GOOD, HELLO, IN_SYNC, IN_SYNC_LINE, READY, READY_LINE, WAIT, came,
+    framed, run, streams,
 };
 use std::alloc::Global;
 use std::test::Fail;
@@ -79,8 +80,26 @@ fn an_unfinished_batch_is_not_published(rt: HostRuntime) -> Result<(), Fail> {
     let alloc = rt.alloc();
     let zero = [HELLO, WAIT, CRUMB_0];
     let note = "typha: line 2: not a feed line\n";
-    assert!(rt; streams(alloc, &["stream"], &[READY_LINE, "oops\n", IN_SYNC_LINE], 2, &zero, note)?);
-    assert!(rt; streams(alloc, &["stream", "--from", "1"], &[READY_LINE, "oops"], 2, &[HELLO], note)?);
+    assert!(rt;
+        streams(
+            alloc,
+            &["stream"],
+            &[READY_LINE, "oops\n", IN_SYNC_LINE],
+            2,
+            &zero,
+            note
+        )?
+    );
+    assert!(rt;
+        streams(
+            alloc,
+            &["stream", "--from", "1"],
+            &[READY_LINE, "oops"],
+            2,
+            &[HELLO],
+            note
+        )?
+    );
     Ok(())
 }
 

@@ -1,7 +1,7 @@
 // Feeds and their frames.
 use crate::tests::{
-    CRUMB_0, CRUMB_1, CRUMB_2, Devices, GOOD, HELLO, IN_SYNC, IN_SYNC_LINE, READY, READY_LINE, WAIT, came,
-    framed, run, streams,
+    CRUMB_0, CRUMB_1, CRUMB_2, Devices, GOOD, HELLO, IN_SYNC, IN_SYNC_LINE, READY, READY_LINE,
+    WAIT, came, framed, run, streams,
 };
 use std::alloc::Global;
 use std::test::Fail;
@@ -30,7 +30,16 @@ fn a_feed_has_the_frames_of_its_breadcrumbs(rt: HostRuntime) -> Result<(), Fail>
     let zero = [HELLO, WAIT, CRUMB_0];
     let ready = [HELLO, WAIT, CRUMB_0, READY, IN_SYNC, CRUMB_1];
     assert!(rt; streams(alloc, &["stream"], &[], 0, &zero, "")?);
-    assert!(rt; streams(alloc, &["stream"], &[READY_LINE, IN_SYNC_LINE], 0, &ready, "")?);
+    assert!(rt;
+        streams(
+            alloc,
+            &["stream"],
+            &[READY_LINE, IN_SYNC_LINE],
+            0,
+            &ready,
+            ""
+        )?
+    );
     let held = [HELLO, WAIT, CRUMB_0, READY, CRUMB_1];
     let twice = [READY_LINE, "\n", READY_LINE, " \r\t\n"];
     assert!(rt; streams(alloc, &["stream"], &twice, 0, &held, "")?);
@@ -45,7 +54,16 @@ fn a_breadcrumb_has_the_changes_of_its_batch(rt: HostRuntime) -> Result<(), Fail
     let both = [HELLO, WAIT, CRUMB_0, replaced, CRUMB_1];
     assert!(rt; streams(alloc, &["stream"], &[A, B, A_TWO], 0, &both, "")?);
     let only_b = [HELLO, WAIT, CRUMB_0, NEW_B, CRUMB_1];
-    assert!(rt; streams(alloc, &["stream"], &[A, NO_A, "\n", B, "\n"], 0, &only_b, "")?);
+    assert!(rt;
+        streams(
+            alloc,
+            &["stream"],
+            &[A, NO_A, "\n", B, "\n"],
+            0,
+            &only_b,
+            ""
+        )?
+    );
     Ok(())
 }
 
@@ -57,7 +75,16 @@ fn an_invalid_value_is_none(rt: HostRuntime) -> Result<(), Fail> {
     let deleted =
         "{\"kvs\":[{\"key\":\"/calico/v1/host/n1/workload/k8s/p1/endpoint/eth0\",\"type\":\"deleted\"}],\"m\":\"kvs\"}";
     let bodies = [HELLO, WAIT, CRUMB_0, put, CRUMB_1, deleted, CRUMB_2];
-    assert!(rt; streams(alloc, &["stream"], &[ENDPOINT, "\n", BAD_ENDPOINT, "\n"], 0, &bodies, "")?);
+    assert!(rt;
+        streams(
+            alloc,
+            &["stream"],
+            &[ENDPOINT, "\n", BAD_ENDPOINT, "\n"],
+            0,
+            &bodies,
+            ""
+        )?
+    );
     let zero = [HELLO, WAIT, CRUMB_0];
     assert!(rt; streams(alloc, &["stream"], &[BAD_ENDPOINT, "\n"], 0, &zero, "")?);
     Ok(())
@@ -72,7 +99,16 @@ fn the_talk_begins_with_the_breadcrumb_that_is_asked_for(rt: HostRuntime) -> Res
     let one = [HELLO, READY, IN_SYNC, CRUMB_1];
     assert!(rt; streams(alloc, &["stream", "--from", "1"], &feed, 0, &one, "")?);
     assert!(rt; streams(alloc, &["stream", "--from", "2"], &feed, 0, &[HELLO], "")?);
-    assert!(rt; streams(alloc, &["stream", "--from", "1099511627776"], &feed, 0, &[HELLO], "")?);
+    assert!(rt;
+        streams(
+            alloc,
+            &["stream", "--from", "1099511627776"],
+            &feed,
+            0,
+            &[HELLO],
+            ""
+        )?
+    );
     Ok(())
 }
 
@@ -95,9 +131,7 @@ fn later_breadcrumbs_follow_as_deltas(rt: HostRuntime) -> Result<(), Fail> {
 
 // Appends the line that puts k to key k.
 fn append_line(alloc: Global, k: u32, out: &mut Vec<u8>) -> Result<(), Fail> {
-    let line = format!(in alloc;
-        "{{\"key\":\"/calico/v1/config/k{k:03}\",\"value\":\"{k}\"}}\n"
-    )?;
+    let line = format!(in alloc; "{{\"key\":\"/calico/v1/config/k{k:03}\",\"value\":\"{k}\"}}\n")?;
     out.extend_from_slice(line.as_bytes())?;
     Ok(())
 }
@@ -133,7 +167,15 @@ fn the_101st_update_makes_another_breadcrumb(rt: HostRuntime) -> Result<(), Fail
     let feed = lines_up_to(alloc, 101)?;
     let first = new_keys(alloc, 1, 100)?;
     let second = new_keys(alloc, 101, 101)?;
-    let bodies = [HELLO, WAIT, CRUMB_0, first.as_str(), CRUMB_1, second.as_str(), CRUMB_2];
+    let bodies = [
+        HELLO,
+        WAIT,
+        CRUMB_0,
+        first.as_str(),
+        CRUMB_1,
+        second.as_str(),
+        CRUMB_2,
+    ];
     let wanted = framed(alloc, &bodies)?;
     let ran = run(alloc, &["stream"], &feed, GOOD)?;
     assert!(rt; came(&ran, 0, &wanted, ""));
@@ -148,7 +190,14 @@ fn a_snapshot_has_100_deltas_in_a_message(rt: HostRuntime) -> Result<(), Fail> {
     let second = new_keys(alloc, 101, 200)?;
     let third = new_keys(alloc, 201, 250)?;
     let crumb = "{\"m\":\"crumb\",\"n\":3}";
-    let bodies = [HELLO, first.as_str(), second.as_str(), third.as_str(), WAIT, crumb];
+    let bodies = [
+        HELLO,
+        first.as_str(),
+        second.as_str(),
+        third.as_str(),
+        WAIT,
+        crumb,
+    ];
     let wanted = framed(alloc, &bodies)?;
     let ran = run(alloc, &["stream", "--from", "3"], &feed, GOOD)?;
     assert!(rt; came(&ran, 0, &wanted, ""));
@@ -173,12 +222,30 @@ const ROOM: Devices = Devices {
 #[test]
 fn the_largest_value_fills_a_message(rt: HostRuntime) -> Result<(), Fail> {
     let alloc = rt.alloc();
-    let feed = with_many(alloc, "{\"key\":\"/calico/v1/config/a\",\"value\":\"", 1_048_574, "\"}\n{\"key\":\"/calico/v1/config/b\",\"value\":\"1\"}\n")?;
-    let large = with_many(alloc, "{\"kvs\":[{\"key\":\"/calico/v1/config/a\",\"type\":\"new\",\"value\":\"\\\"", 1_048_574, "\\\"\"}],\"m\":\"kvs\"}")?;
-    let wanted = framed(alloc, &[HELLO, WAIT, CRUMB_0, large.as_str(), NEW_B, CRUMB_1])?;
+    let feed = with_many(
+        alloc,
+        "{\"key\":\"/calico/v1/config/a\",\"value\":\"",
+        1_048_574,
+        "\"}\n{\"key\":\"/calico/v1/config/b\",\"value\":\"1\"}\n",
+    )?;
+    let large = with_many(
+        alloc,
+        "{\"kvs\":[{\"key\":\"/calico/v1/config/a\",\"type\":\"new\",\"value\":\"\\\"",
+        1_048_574,
+        "\\\"\"}],\"m\":\"kvs\"}",
+    )?;
+    let wanted = framed(
+        alloc,
+        &[HELLO, WAIT, CRUMB_0, large.as_str(), NEW_B, CRUMB_1],
+    )?;
     let ran = run(alloc, &["stream"], feed.as_bytes(), ROOM)?;
     assert!(rt; came(&ran, 0, &wanted, ""));
-    let feed = with_many(alloc, "{\"key\":\"/calico/v1/config/a\",\"value\":\"", 1_048_575, "\"}\n{\"key\":\"/calico/v1/config/b\",\"value\":\"1\"}\n")?;
+    let feed = with_many(
+        alloc,
+        "{\"key\":\"/calico/v1/config/a\",\"value\":\"",
+        1_048_575,
+        "\"}\n{\"key\":\"/calico/v1/config/b\",\"value\":\"1\"}\n",
+    )?;
     let wanted = framed(alloc, &[HELLO, WAIT, CRUMB_0, NEW_B, CRUMB_1])?;
     let ran = run(alloc, &["stream"], feed.as_bytes(), ROOM)?;
     assert!(rt; came(&ran, 0, &wanted, ""));

@@ -1,9 +1,10 @@
 // What a client follows.
-use crate::tests::{
-    CRUMB_0, CRUMB_1, Devices, FEED, GOOD, HELLO, IN_SYNC, READY, READY_LINE, WAIT, came, framed, joined, run,
-};
 use crate::tests::feeds::{A, A_TWO, B, BAD_ENDPOINT, ENDPOINT, NO_A, lines_up_to};
 use crate::tests::realistic::LINES;
+use crate::tests::{
+    CRUMB_0, CRUMB_1, Devices, FEED, GOOD, HELLO, IN_SYNC, READY, READY_LINE, WAIT, came, framed,
+    joined, run,
+};
 use std::alloc::Global;
 use std::test::Fail;
 use ty_base::NoMemory;
@@ -145,12 +146,21 @@ fn a_client_rebuilds_the_folds(rt: HostRuntime) -> Result<(), Fail> {
     let alloc = rt.alloc();
     assert!(rt; folds(alloc, &["follow"], &[], FIRST)?);
     assert!(rt; folds(alloc, &["follow"], &[FEED], TEXT)?);
-    let held = "at 0 wait-for-ready 0\nat 1 wait-for-ready 1\n{\"key\":\"/calico/v1/Ready\",\"value\":\"true\"}\n";
-    assert!(rt; folds(alloc, &["follow"], &[READY_LINE, "\n", READY_LINE, "\n"], held)?);
+    let held =
+        "at 0 wait-for-ready 0\nat 1 wait-for-ready 1\n{\"key\":\"/calico/v1/Ready\",\"value\":\"true\"}\n";
+    assert!(rt;
+        folds(
+            alloc,
+            &["follow"],
+            &[READY_LINE, "\n", READY_LINE, "\n"],
+            held
+        )?
+    );
     let replaced =
         "at 0 wait-for-ready 0\nat 1 wait-for-ready 2\n{\"key\":\"/calico/v1/config/a\",\"value\":\"\\\"2\\\"\"}\n{\"key\":\"/calico/v1/config/b\",\"value\":\"\\\"1\\\"\"}\n";
     assert!(rt; folds(alloc, &["follow"], &[A, B, A_TWO], replaced)?);
-    let only_b = "at 0 wait-for-ready 0\nat 1 wait-for-ready 1\n{\"key\":\"/calico/v1/config/b\",\"value\":\"\\\"1\\\"\"}\n";
+    let only_b =
+        "at 0 wait-for-ready 0\nat 1 wait-for-ready 1\n{\"key\":\"/calico/v1/config/b\",\"value\":\"\\\"1\\\"\"}\n";
     assert!(rt; folds(alloc, &["follow"], &[A, NO_A, "\n", B, "\n"], only_b)?);
     Ok(())
 }
@@ -160,7 +170,14 @@ fn a_client_sees_an_invalid_value_as_none(rt: HostRuntime) -> Result<(), Fail> {
     let alloc = rt.alloc();
     let deleted =
         "at 0 wait-for-ready 0\nat 1 wait-for-ready 1\n{\"key\":\"/calico/v1/host/n1/workload/k8s/p1/endpoint/eth0\",\"value\":\"{\\\"ipv4_nets\\\":[\\\"10.0.0.1/32\\\"],\\\"name\\\":\\\"cali1\\\"}\"}\nat 2 wait-for-ready 0\n";
-    assert!(rt; folds(alloc, &["follow"], &[ENDPOINT, "\n", BAD_ENDPOINT, "\n"], deleted)?);
+    assert!(rt;
+        folds(
+            alloc,
+            &["follow"],
+            &[ENDPOINT, "\n", BAD_ENDPOINT, "\n"],
+            deleted
+        )?
+    );
     assert!(rt; folds(alloc, &["follow"], &[BAD_ENDPOINT, "\n"], FIRST)?);
     Ok(())
 }
