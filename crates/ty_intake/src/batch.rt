@@ -30,13 +30,6 @@ impl Items {
         }
     }
 
-    /// A list that is handed over, without a copy.
-    pub fn from_vec(list: Vec<Item>) -> Items
-        ensures { result ≡ list.items }
-    {
-        Items { list }
-    }
-
     /// All of them, in order.
     pub fn as_slice(&self) -> &[Item]
         ensures { result.now ≡ self.now }

@@ -64,8 +64,8 @@ impl Model for Intake {
 
     ghost view = { λ s. record { rest = s.rest.items; lines = s.lines; seen = s.seen; pending = s.pending; cut = s.cut; fault = s.fault; ended = s.ended; spent = s.spent } };
 
-    ghost invariant = { λ s. (s.seen < 2 ^ 40) × (s.lines ≤ s.seen) × (length s.pending < 100) × (s.cut + length s.pending ≤ s.lines)
-        × (list_all within_limits s.pending ≡ true) };
+    ghost invariant = { λ s. (s.seen < 2 ^ 40) × (s.lines ≤ s.seen) × (length s.pending < 100)
+        × (s.cut + length s.pending ≤ s.lines) × (list_all within_limits s.pending ≡ true) };
 }
 
 impl Intake {

@@ -22,8 +22,8 @@ pub(crate) fn take_piece(
 ) -> Result<Option<IntakeFault>, NoMemory>
     requires sound { IsSound reading.old }
     requires few { reading.old.lines + length piece.now < 2 ^ 40 }
-    ensures { IfOk result (λ fault.
-        IsMoved (behind rest.old.items (cut_lines piece.now).lines (cut_lines piece.now).rest) rest.new.items reading.old reading.new fault) }
+    ensures { IfOk result (λ fault. IsMoved (behind rest.old.items (cut_lines piece.now).lines (cut_lines piece.now).rest)
+        rest.new.items reading.old reading.new fault) }
 {
     if rest.is_empty() {
         return take_lines(alloc, rest, reading, piece);

@@ -95,8 +95,8 @@ pub(crate) fn close_last(alloc: Global, reading: &mut Reading) -> Result<(), NoM
 // Closes the batch of what is pending.
 fn close(alloc: Global, reading: &mut Reading) -> Result<(), NoMemory>
     requires { reading.old.cut + length reading.old.pending < 2 ^ 64 }
-    ensures closed { OnOk result (reading.new.closed
-        ≡ reading.old.closed ++ record { items = reading.old.pending; cut = reading.old.cut + length reading.old.pending } ∷ []) }
+    ensures closed { OnOk result (reading.new.closed ≡ reading.old.closed
+        ++ record { items = reading.old.pending; cut = reading.old.cut + length reading.old.pending } ∷ []) }
     ensures cut { OnOk result (reading.new.cut ≡ reading.old.cut + length reading.old.pending) }
     ensures pending { OnOk result (reading.new.pending ≡ []) }
     ensures lines { OnOk result (reading.new.lines ≡ reading.old.lines) }

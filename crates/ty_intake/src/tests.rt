@@ -237,6 +237,14 @@ fn a_long_line_is_told_at_the_byte_past_the_limit(rt: HostRuntime) -> Result<(),
     Ok(())
 }
 
+// Where the first batch of a call closes.
+fn first_cut(fed: &Fed) -> Option<u64> {
+    if fed.closed.is_empty() {
+        return None;
+    }
+    Some(fed.closed.at(0).cut)
+}
+
 #[test]
 fn nothing_comes_after_the_end(rt: HostRuntime) -> Result<(), Fail> {
     let alloc = rt.alloc();
@@ -244,7 +252,7 @@ fn nothing_comes_after_the_end(rt: HostRuntime) -> Result<(), Fail> {
     let fed = intake.feed(alloc, b"{\"key\":\"/calico/v1/Ready\"}")?;
     assert_eq!(rt; brief(&fed), (0, None));
     let end = intake.end(alloc)?;
-    assert_eq!(rt; brief(&end), (1, None));
+    assert_eq!(rt; (brief(&end), first_cut(&end)), ((1, None), Some(1)));
     let more = intake.feed(alloc, b"\n\n\xff\n")?;
     assert_eq!(rt; brief(&more), (0, None));
     let again = intake.end(alloc)?;
