@@ -20,7 +20,11 @@ IsRising (a ∷ more) = IsAbove a.number more
 
 -- the map and the status that the first n entries leave, under their number
 abbrev pub rebuilt_after : List Entry → ℕ → Rebuilt
-rebuilt_after entries n = record { number = n; status = (world_after entries n).status; pairs = (world_after entries n).pairs }
+rebuilt_after entries n = record {
+  number = n;
+  status = (world_after entries n).status;
+  pairs = (world_after entries n).pairs;
+}
 
 -- the map and the status are those that the first of these entries leave, as many as the number says
 pub record IsWorldOf (entries : List Entry) (a : Rebuilt) : Type 0 where
@@ -43,4 +47,8 @@ pub record IsWorldAt (ended : Bool) (items : List Item) (a : Rebuilt) : Type 0 w
 
 -- the map and the status of the world at breadcrumb n, under its number
 abbrev pub rebuilt_at : Bool → List Item → ℕ → Rebuilt
-rebuilt_at ended items n = record { number = n; status = (world ended items n).status; pairs = (world ended items n).pairs }
+rebuilt_at ended items n = record {
+  number = n;
+  status = (world ended items n).status;
+  pairs = (world ended items n).pairs;
+}

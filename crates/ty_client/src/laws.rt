@@ -17,13 +17,17 @@ ghost use Rattle.ty_client.specs.Worlds.{IsRising, IsWorldOf, rebuilt_after, wit
 /// each crumb end n has the map and status that the first n entries leave. So it is with pings, the whole talk has a
 /// crumb end for each of its numbers, and a server hello alone reads and has none.
 pub fn talks_rebuild_worlds()
-    ensures talk { (entries : List Entry) (e0 : ℕ) (numbers bytes more : List ℕ) → list_all entry_passes entries ≡ true → length entries < 2 ^ 64
-        → Rise e0 numbers (length entries) → length bytes < 2 ^ 40 → bytes ++ more ≡ frames (talk entries e0 numbers)
+    ensures talk { (entries : List Entry) (e0 : ℕ) (numbers bytes more : List ℕ)
+        → list_all entry_passes entries ≡ true → length entries < 2 ^ 64 → Rise e0 numbers (length entries)
+        → length bytes < 2 ^ 40 → bytes ++ more ≡ frames (talk entries e0 numbers)
         → (ms : List Msg) × Hears bytes ms None × IsRising (ats ms) × All (λ a. IsWorldOf entries a) (ats ms) }
-    ensures pings { (entries : List Entry) (e0 : ℕ) (numbers bytes more : List ℕ) (all : List Msg) → list_all entry_passes entries ≡ true → length entries < 2 ^ 64
-        → IsTalk entries e0 numbers all → list_all ping_fits all ≡ true → length bytes < 2 ^ 40 → bytes ++ more ≡ frames all
+    ensures pings { (entries : List Entry) (e0 : ℕ) (numbers bytes more : List ℕ) (all : List Msg)
+        → list_all entry_passes entries ≡ true → length entries < 2 ^ 64
+        → IsTalk entries e0 numbers all → list_all ping_fits all ≡ true
+        → length bytes < 2 ^ 40 → bytes ++ more ≡ frames all
         → (ms : List Msg) × Hears bytes ms None × IsRising (ats ms) × All (λ a. IsWorldOf entries a) (ats ms) }
-    ensures whole { (entries : List Entry) (e0 : ℕ) (numbers : List ℕ) (all : List Msg) → list_all entry_passes entries ≡ true → length entries < 2 ^ 64
+    ensures whole { (entries : List Entry) (e0 : ℕ) (numbers : List ℕ) (all : List Msg)
+        → list_all entry_passes entries ≡ true → length entries < 2 ^ 64
         → IsTalk entries e0 numbers all → list_all ping_fits all ≡ true → length (frames all) < 2 ^ 40
         → Hears (frames all) all None × (ats all ≡ map (rebuilt_after entries) (e0 ∷ numbers)) }
     ensures hello { (bytes more : List ℕ) → length bytes < 2 ^ 40 → bytes ++ more ≡ frame (ServerHello 1)
@@ -34,10 +38,13 @@ pub fn talks_rebuild_worlds()
 /// numbers rise, and what is rebuilt at breadcrumb n has the map and status of the world at cut n. The whole talk has a
 /// crumb end for each of its numbers. The keys and values of the items are UTF-8 and within the limits.
 pub fn talks_over_books_rebuild_the_worlds()
-    ensures front { (ended : Bool) (items : List Item) (e0 : ℕ) (numbers bytes more : List ℕ) (all : List Msg) → list_all within_limits items ≡ true → length items < 2 ^ 64
-        → IsTalk (book ended items) e0 numbers all → list_all ping_fits all ≡ true → length bytes < 2 ^ 40 → bytes ++ more ≡ frames all
+    ensures front { (ended : Bool) (items : List Item) (e0 : ℕ) (numbers bytes more : List ℕ) (all : List Msg)
+        → list_all within_limits items ≡ true → length items < 2 ^ 64
+        → IsTalk (book ended items) e0 numbers all → list_all ping_fits all ≡ true
+        → length bytes < 2 ^ 40 → bytes ++ more ≡ frames all
         → (ms : List Msg) × Hears bytes ms None × IsRising (ats ms) × All (λ a. IsWorldAt ended items a) (ats ms) }
-    ensures whole { (ended : Bool) (items : List Item) (e0 : ℕ) (numbers : List ℕ) (all : List Msg) → list_all within_limits items ≡ true → length items < 2 ^ 64
+    ensures whole { (ended : Bool) (items : List Item) (e0 : ℕ) (numbers : List ℕ) (all : List Msg)
+        → list_all within_limits items ≡ true → length items < 2 ^ 64
         → IsTalk (book ended items) e0 numbers all → list_all ping_fits all ≡ true → length (frames all) < 2 ^ 40
         → Hears (frames all) all None × (ats all ≡ map (rebuilt_at ended items) (e0 ∷ numbers)) }
 {}
