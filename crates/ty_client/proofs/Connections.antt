@@ -1,20 +1,20 @@
 -- Pieces of a connection, and one connection after another.
-use Rattle.std.proofs.Common.{◌≡◌, ℕ, zero, suc, ◌+◌, ◌-◌, ◌^◌, ◌<◌, ◌≤◌, Bool, true, false, List, [], ◌∷◌, ◌++◌, length, take, drop, refl, sym, ap, subst, ◌∙◌, append_assoc, append-nil, arith}
+use Rattle.std.proofs.Common.{◌≡◌, ℕ, suc, ◌-◌, true, false, List, [], ◌∷◌, ◌++◌, length, refl, sym, ap, subst, ◌∙◌, append_assoc, append-nil, arith}
 use Rattle.std.specs.Prelude.{Option, None, Some, option_map, slice_get, is_some}
 use Rattle.std.specs.Option.{option_or}
 use Rattle.std.specs.List.{AllByRecursion}
 use Rattle.ty_wire.specs.Wire.{IsWire, frames}
 use Rattle.ty_wire.specs.Held.{Held as HeldFrames}
-use Rattle.ty_wire.specs.Stream.{Stands as FramesStand, StandsBy, IsFault, Brings, Reads, IsBad, HasBody, read_part}
+use Rattle.ty_wire.specs.Stream.{Stands as FramesStand, StandsBy, IsFault, Brings, IsBad, read_part}
 use Rattle.ty_wire.specs.declared.message.Msg.{Msg}
 use Rattle.ty_wire.specs.declared.splitting.WireFault.{WireFault}
 use Rattle.ty_wire.specs.declared.splitting.WireFault.TheVariants.{TooLong, NotJson, Shape, TooMuch}
 use Rattle.ty_client.specs.declared.fault.StreamFault.{StreamFault}
 use Rattle.ty_client.specs.declared.fault.StreamFault.TheVariants.{Wire}
 use Rattle.ty_client.specs.Places.{fault_at, Judged, judged_by, judged_after, judged}
-use Rattle.ty_client.specs.Rebuilt.{Rebuilt, ats, ats_after, last_held, pongs}
+use Rattle.ty_client.specs.Rebuilt.{Rebuilt, ats, ats_after, last_held}
 use Rattle.ty_client.specs.Heard.{Hears, Holds, HoldsAfter}
-use Rattle.ty_client.specs.Stands.{Staged, staged, Rebuilding, IsOpen, GoesOn, Stands, Brought}
+use Rattle.ty_client.specs.Stands.{Staged, Rebuilding, IsOpen, GoesOn, Stands, Brought}
 use Rattle.ty_client.specs.Steps.{IsJudged, IsHeard, HasHistory}
 use Rattle.ty_client.proofs.Judging.{judged_more, judged_none, ats_more, ats_none, last_more}
 

@@ -1,14 +1,12 @@
 -- A source that is followed, piece by piece.
-use Rattle.std.proofs.Common.{◌≡◌, ℕ, zero, suc, drop, ◌+◌, ◌^◌, ◌<◌, ◌≤◌, List, [], ◌∷◌, ◌++◌, Bool, true, false, length, take, refl, sym, ap, ◌∙◌, append_assoc, append-nil, subst, arith, length-append}
+use Rattle.std.proofs.Common.{◌≡◌, ℕ, zero, suc, drop, ◌+◌, ◌^◌, ◌<◌, ◌≤◌, List, [], ◌∷◌, ◌++◌, Bool, length, take, refl, sym, ap, ◌∙◌, append-nil, subst, arith, length-append}
 use Rattle.std.proofs.lemmas.Grind.{flat_map-append}
 use Rattle.std.proofs.lemmas.List.{take-take}
-use Rattle.std.specs.Prelude.{Option, None, Some, Result, Ok, Err, OnOk, IfErr, flat_map}
+use Rattle.std.specs.Prelude.{Option, None, Some, Result, Ok, Err, OnOk, IfErr}
 use Rattle.std.specs.Io.KnownBytes.{Appends, Consumes, IsAtEnd}
-use Rattle.ty_base.specs.Causes.{Rose}
 use Rattle.ty_base.specs.Fronts.{AppendsFront}
-use Rattle.ty_base.proofs.Known.{Appends-then, Appends-same, AppendsFront-more, AppendsFront-after, Consumes-then}
-use Rattle.ty_wire.specs.Held.{Held as HeldFrames}
-use Rattle.ty_wire.specs.Stream.{Stands as FramesStand, StandsBy, IsOpen as FramesOpen, Reads}
+use Rattle.ty_base.proofs.Known.{Appends-then, Appends-same, AppendsFront-after, Consumes-then}
+use Rattle.ty_wire.specs.Stream.{StandsBy, IsOpen as FramesOpen, Reads}
 use Rattle.ty_wire.specs.declared.message.Msg.{Msg}
 use Rattle.ty_wire.specs.declared.splitting.WireFault.{WireFault}
 use Rattle.ty_client.specs.declared.fault.StreamFault.{StreamFault}

@@ -1,5 +1,5 @@
 -- Messages judged one after another.
-use Rattle.std.proofs.Common.{◌≡◌, ℕ, ◌+◌, Bool, true, false, List, [], ◌∷◌, ◌++◌, length, refl, sym, ap, ◌∙◌, append_assoc, append-nil, length-append}
+use Rattle.std.proofs.Common.{◌≡◌, ◌+◌, Bool, false, List, [], ◌∷◌, ◌++◌, length, refl, sym, ap, ◌∙◌, append_assoc, append-nil, length-append}
 use Rattle.std.specs.Prelude.{Option, None, Some, flat_map, unwrap_or}
 use Rattle.std.specs.Option.{option_or}
 use Rattle.std.specs.List.{fold}
@@ -12,7 +12,7 @@ use Rattle.ty_wire.specs.declared.message.Msg.TheVariants.{ClientHello, ServerHe
 use Rattle.ty_client.specs.declared.fault.StreamFault.{StreamFault}
 use Rattle.ty_client.specs.Places.{fault_at, Judged, judged_by, judged_after, latest, status_in, number_in, is_status, has_status}
 use Rattle.ty_client.specs.Rebuilt.{Rebuilt, at_of, ats_after, deltas_in, rebuilt_map, pong_of, pongs, last_held}
-use Rattle.ty_client.specs.Stands.{Staged, staged}
+use Rattle.ty_client.specs.Stands.{staged}
 use Rattle.ty_client.specs.Steps.{next_stage, stage_ats}
 
 -- behind good messages the rest is judged alone

@@ -1,6 +1,6 @@
 -- A text that is given part by part.
-use Rattle.std.proofs.Common.{◌≡◌, ℕ, zero, suc, arith, ◌+◌, ◌<◌, ◌≤◌, List, [], ◌∷◌, ◌++◌, Bool, true, false, length, take, drop, get_or, refl, sym, ap, ◌∙◌, append_assoc, append-nil, subst, add-one, drop-cons}
-use Rattle.std.specs.Prelude.{Option, Result, Ok, Err, IsErrOf, flat_map, codes}
+use Rattle.std.proofs.Common.{◌≡◌, ℕ, zero, suc, arith, ◌+◌, ◌<◌, ◌≤◌, List, [], ◌∷◌, ◌++◌, Bool, true, false, length, drop, get_or, refl, sym, ap, ◌∙◌, append_assoc, append-nil, subst, add-one, drop-cons}
+use Rattle.std.specs.Prelude.{Option, Result, Ok, Err, IsErrOf, codes}
 use Rattle.ty_client.specs.declared.printing.Unwritten.TheVariants.{Sink, Memory}
 use Rattle.ty_client.specs.declared.printing.Unwritten.{Unwritten}
 use Rattle.std.specs.Io.KnownBytes.{Appends}

@@ -1,10 +1,10 @@
 -- How far a loop over messages has come.
-use Rattle.std.proofs.Common.{◌≡◌, ℕ, ◌+◌, ◌<◌, List, [], ◌∷◌, ◌++◌, length, take, drop, get_or, refl, sym, ap, subst, ◌∙◌, append_assoc, append-nil}
+use Rattle.std.proofs.Common.{◌≡◌, ℕ, List, [], ◌∷◌, ◌++◌, sym, ap, ◌∙◌, append_assoc, append-nil}
 use Rattle.std.specs.Prelude.{Option, None, Some}
 use Rattle.ty_wire.specs.Wire.{frames}
 use Rattle.ty_wire.specs.declared.message.Msg.{Msg}
 use Rattle.ty_client.specs.declared.fault.StreamFault.{StreamFault}
-use Rattle.ty_client.specs.Places.{fault_at, Judged, judged_after}
+use Rattle.ty_client.specs.Places.{Judged, judged_after}
 use Rattle.ty_client.specs.Rebuilt.{Rebuilt, ats_after, pong_of, pongs}
 use Rattle.ty_client.specs.Stands.{Staged, staged}
 use Rattle.ty_client.specs.Steps.{stage_fault, next_stage, stage_ats, IsJudged}

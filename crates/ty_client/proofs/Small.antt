@@ -1,5 +1,5 @@
 -- Deltas within the limits keep a map's keys and values within them.
-use Rattle.std.proofs.Common.{◌≡◌, ℕ, zero, suc, arith, ◌+◌, ◌<◌, Bool, true, false, cond, not, ◌&&◌, List, [], ◌∷◌, ◌++◌, take, length, get_or, refl, subst, sym, ap}
+use Rattle.std.proofs.Common.{◌≡◌, ℕ, zero, suc, arith, ◌<◌, Bool, true, false, cond, not, ◌&&◌, List, [], ◌∷◌, length, get_or, refl}
 use Rattle.std.specs.Prelude.{Option, None, Some}
 use Rattle.std.specs.declared.cmp.Ordering.TheVariants.{Less, Equal, Greater}
 use Rattle.std.specs.List.{fold, filter, list_all, AllByRecursion}
@@ -13,7 +13,6 @@ use Rattle.ty_base.specs.declared.delta.Delta.{Delta}
 use Rattle.ty_base.proofs.Passing.{both, left, right}
 use Rattle.ty_wire.specs.Limits.{delta_fits, value_len, within_limits, IsWithinLimits}
 use Rattle.ty_wire.specs.Wire.{IsWire, message_fits, body, parts_fit}
-use Rattle.ty_wire.specs.declared.message.Msg.{Msg}
 use Rattle.ty_wire.specs.declared.message.Msg.TheVariants.{Kvs}
 use Rattle.std.specs.Prelude.{nat_le, nat_lt}
 use Rattle.ty_client.specs.Limits.{key_fits, value_fits, HasSmallPairs}

@@ -3,7 +3,6 @@ use Rattle.std.specs.Prelude.{◌≡◌, ◌<◌, ◌++◌, ℕ, List, [], Optio
 use Rattle.std.specs.Io.KnownBytes.{Appends, Consumes, IsAtEnd}
 use Rattle.ty_base.specs.Causes.{Rose}
 use Rattle.ty_base.specs.Fronts.{AppendsFront}
-use Rattle.ty_wire.specs.Wire.{frames}
 use Rattle.ty_wire.specs.Stream.{Reads}
 use Rattle.ty_wire.specs.declared.message.Msg.{Msg}
 use Rattle.ty_client.specs.declared.fault.StreamFault.{StreamFault}

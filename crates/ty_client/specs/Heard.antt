@@ -1,5 +1,5 @@
 -- What the bytes of a connection come to, and what a client holds after several connections.
-use Rattle.std.specs.Prelude.{◌≡◌, ℕ, List, [], ◌∷◌, ◌++◌, Option, None, Some, option_map}
+use Rattle.std.specs.Prelude.{◌≡◌, ℕ, List, [], ◌∷◌, ◌++◌, Option, None, option_map}
 use Rattle.std.specs.Option.{option_or}
 use Rattle.ty_wire.specs.Stream.{Brings}
 use Rattle.ty_wire.specs.declared.message.Msg.{Msg}

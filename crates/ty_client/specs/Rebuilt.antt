@@ -1,5 +1,5 @@
 -- What a client rebuilds from the messages of one connection.
-use Rattle.std.specs.Prelude.{ℕ, List, [], ◌∷◌, ◌++◌, flat_map, Option, None, Some, unwrap_or}
+use Rattle.std.specs.Prelude.{ℕ, List, [], ◌∷◌, ◌++◌, flat_map, Option, Some, unwrap_or}
 use Rattle.std.specs.List.{fold}
 use Rattle.ty_base.specs.Feed.{Pairs, changed}
 use Rattle.ty_base.specs.declared.delta.Delta.{Delta}

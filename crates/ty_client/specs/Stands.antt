@@ -7,7 +7,7 @@ use Rattle.ty_wire.specs.Stream.{Stands as FramesStand}
 use Rattle.ty_wire.specs.Held.{Held as HeldFrames}
 use Rattle.ty_wire.specs.declared.message.Msg.{Msg}
 use Rattle.ty_client.specs.declared.fault.StreamFault.{StreamFault}
-use Rattle.ty_client.specs.Places.{next_frame, latest, status_in, number_in, has_status, judged, Judged}
+use Rattle.ty_client.specs.Places.{next_frame, latest, status_in, number_in, has_status, judged}
 use Rattle.ty_client.specs.Rebuilt.{Rebuilt, rebuilt_map, ats, ats_after, last_held, pongs}
 use Rattle.ty_client.specs.Heard.{Hears, Holds}
 

@@ -1,9 +1,8 @@
 -- For private clauses: one message more.
-use Rattle.std.specs.Prelude.{◌≡◌, ℕ, ◌+◌, ◌==◌, ◌++◌, List, [], ◌∷◌, Bool, true, false, Option, None, Some, unwrap_or, if◌then◌else◌}
+use Rattle.std.specs.Prelude.{◌≡◌, ℕ, ◌+◌, ◌==◌, ◌++◌, List, [], ◌∷◌, Bool, true, false, Option, unwrap_or, if◌then◌else◌}
 use Rattle.std.specs.List.{fold}
 use Rattle.std.specs.Option.{option_or}
 use Rattle.ty_base.specs.Feed.{changed}
-use Rattle.ty_base.specs.declared.status.Status.{Status}
 use Rattle.ty_base.specs.declared.status.Status.TheVariants.{Wait}
 use Rattle.ty_wire.specs.Wire.{frames}
 use Rattle.ty_wire.specs.declared.message.Msg.{Msg}

@@ -1,5 +1,5 @@
 -- The printed text of what a client has rebuilt.
-use Rattle.std.specs.Prelude.{ℕ, List, [], ◌++◌, ◌∷◌, length, codes, decimal, flat_map, Bool, if◌then◌else◌}
+use Rattle.std.specs.Prelude.{ℕ, List, [], ◌++◌, length, codes, decimal, flat_map, Bool, if◌then◌else◌}
 use Rattle.json.specs.Print.{quoted}
 use Rattle.ty_base.specs.Feed.{Pairs}
 use Rattle.ty_base.specs.Statuses.{status_text}

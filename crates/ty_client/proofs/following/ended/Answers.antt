@@ -1,4 +1,4 @@
-use Rattle.std.proofs.Common.{◌≡◌, [], sym, ◌∙◌, arith}
+use Rattle.std.proofs.Common.{[], sym, ◌∙◌, arith}
 use Rattle.ty_client.proofs.following.ended.Goals as goal
 
 pub returns-then-left-eq0 : goal.returns-then-left-eq0

@@ -1,9 +1,8 @@
 use Rattle.std.proofs.Common.{◌≡◌, ◌<◌, ◌≤◌, ◌^◌, rules, arith, refl, sym, ◌∙◌, ap, take, length, subst, List, ℕ}
 use Rattle.std.proofs.lemmas.Grind.{common_steps}
-use Rattle.std.specs.Prelude.{Option}
-use Rattle.std.specs.Io.KnownBytes.{Appends, Consumes}
-use Rattle.ty_base.proofs.Known.{Consumes-same, Consumes-kept, Appends-same}
-use Rattle.ty_client.proofs.Followed.{following_begins, following_more, following_short, followed_kept, ended_by, stopped_by, nothing_followed, take_same, length_take, consumed_end}
+use Rattle.std.specs.Io.KnownBytes.{Consumes}
+use Rattle.ty_base.proofs.Known.{Consumes-same, Appends-same}
+use Rattle.ty_client.proofs.Followed.{following_begins, following_more, following_short, ended_by, stopped_by, nothing_followed, take_same, length_take, consumed_end}
 use Rattle.ty_client.specs.Following.{Seen}
 use Rattle.ty_client.proofs.following.follow.Goals as goal
 

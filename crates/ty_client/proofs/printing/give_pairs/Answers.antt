@@ -1,4 +1,4 @@
-use Rattle.std.proofs.Common.{List, ℕ, ◌++◌, ◌≡◌, [], arith, ap, sym, ◌∙◌, append-nil, subst}
+use Rattle.std.proofs.Common.{List, ℕ, ◌++◌, ◌≡◌, arith, ap, sym, ◌∙◌, append-nil}
 use Rattle.ty_client.specs.Texts.{pair_line, pair_lines}
 use Rattle.ty_client.proofs.Printed.{gives_in, gives_cut, next_line, wrote_after, same_cause}
 use Rattle.ty_client.specs.declared.printing.Unwritten.TheVariants.{Sink}

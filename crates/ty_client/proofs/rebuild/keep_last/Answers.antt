@@ -1,4 +1,4 @@
-use Rattle.std.proofs.Common.{◌≡◌, ◌-◌, ◌∙◌, ap, sym, arith}
+use Rattle.std.proofs.Common.{◌-◌, ◌∙◌, ap, sym}
 use Rattle.std.specs.Prelude.{Some, slice_get}
 use Rattle.ty_client.proofs.Connections.{last_is, none_left}
 use Rattle.ty_client.proofs.rebuild.keep_last.Goals as goal

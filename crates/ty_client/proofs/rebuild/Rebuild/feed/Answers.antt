@@ -1,6 +1,5 @@
-use Rattle.std.proofs.Common.{◌≡◌, false, true, refl, ap, sym, ◌∙◌}
-use Rattle.std.specs.Prelude.{is_some, None}
-use Rattle.ty_client.specs.Stands.{Rebuilding}
+use Rattle.std.proofs.Common.{◌≡◌, refl, sym, ◌∙◌}
+use Rattle.std.specs.Prelude.{None}
 use Rattle.ty_client.proofs.Connections.{brought_from, nothing_from, none_of}
 use Rattle.ty_client.proofs.rebuild.Rebuild.feed.Goals as goal
 
