@@ -7,3 +7,4 @@ pub mod Followed
 pub mod Snapshots
 pub mod Talks
 pub mod Books
+pub mod Once

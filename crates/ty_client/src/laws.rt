@@ -1,5 +1,5 @@
 // Laws of the definitions.
-ghost use Rattle.std.specs.Prelude.{◌≡◌, ◌<◌, ◌^◌, ◌++◌, ◌∷◌, List, ℕ, Bool, [], None, true, length, map};
+ghost use Rattle.std.specs.Prelude.{◌≡◌, ◌<◌, ◌^◌, ◌++◌, ◌∷◌, List, ℕ, Bool, [], Option, None, true, length, map};
 ghost use Rattle.std.specs.List.{All, list_all};
 ghost use Rattle.ty_base.specs.declared.item.Item.{Item};
 ghost use Rattle.ty_base.specs.declared.entry.Entry.{Entry};
@@ -9,9 +9,19 @@ ghost use Rattle.ty_wire.specs.Wire.{frame, frames};
 ghost use Rattle.ty_wire.specs.Talk.{talk, ping_fits, Rise, IsTalk};
 ghost use Rattle.ty_wire.specs.declared.message.Msg.{Msg};
 ghost use Rattle.ty_wire.specs.declared.message.Msg.TheVariants.{ServerHello};
-ghost use Rattle.ty_client.specs.Rebuilt.{ats};
-ghost use Rattle.ty_client.specs.Heard.{Hears};
+ghost use Rattle.ty_client.specs.declared.fault.StreamFault.{StreamFault};
+ghost use Rattle.ty_client.specs.Rebuilt.{Rebuilt, ats};
+ghost use Rattle.ty_client.specs.Heard.{Hears, Holds};
 ghost use Rattle.ty_client.specs.Worlds.{IsRising, IsWorldOf, rebuilt_after, within_limits, IsWorldAt, rebuilt_at};
+
+/// Bytes are heard in one way: they have one list of good messages, and one first fault or none. Where they have none,
+/// there are fewer than 2^40 of them. So what a client holds after several connections is one value or none.
+pub fn one_hearing()
+    ensures bytes { (bytes : List ℕ) (ms ns : List Msg) (f g : Option StreamFault) → Hears bytes ms f → Hears bytes ns g
+        → (ms ≡ ns) × (f ≡ g) }
+    ensures short { (bytes : List ℕ) (ms : List Msg) → Hears bytes ms None → length bytes < 2 ^ 40 }
+    ensures connections { (connections : List (List ℕ)) (x y : Option Rebuilt) → Holds connections x → Holds connections y → x ≡ y }
+{}
 
 /// Each front of a talk over a list of entries reads without a fault, its crumb numbers rise, and what is rebuilt at
 /// each crumb end n has the map and status that the first n entries leave. So it is with pings, the whole talk has a

@@ -16,6 +16,6 @@ pub use at::{At, Ats};
 pub use fault::StreamFault;
 pub use following::{FollowFault, follow};
 pub use hearing::Heard;
-pub use laws::{talks_over_books_rebuild_the_worlds, talks_rebuild_worlds};
+pub use laws::{one_hearing, talks_over_books_rebuild_the_worlds, talks_rebuild_worlds};
 pub use printing::append_standing;
 pub use rebuild::Rebuild;

@@ -1,0 +1,6 @@
+use Rattle.std.specs.Prelude.{None}
+use Rattle.ty_client.proofs.Once.{once, short, held_once}
+use Rattle.ty_client.proofs.laws.one_hearing.Goals as goal
+
+pub returns : goal.returns
+returns c = record { bytes = once; short = short; connections = held_once None }
