@@ -61,13 +61,13 @@ on_ok (Err e) p = tt
 -- One batch
 
 module _ (j : ℕ) (before batch : List Item) (closed : IsClosed before) (next : IsNextBatch true before batch) where
-  abbrev all : List Item
-  all = before ++ batch
+  abbrev longer : List Item
+  longer = before ++ batch
 
-  longer : length before ≤ length all
-  longer = omega (arith, length-append before batch)
+  no_shorter : length before ≤ length longer
+  no_shorter = omega (arith, length-append before batch)
 
-  pub published_short : (c d : Crumb) (old : Option (List ℕ)) (n : ℕ) → IsPublished j (Err Short) d before all old old n n
+  pub published_short : (c d : Crumb) (old : Option (List ℕ)) (n : ℕ) → IsPublished j (Err Short) d before longer old old n n
   published_short c d old n =
       let one = one_more j before batch closed next in
       record {
@@ -77,15 +77,15 @@ module _ (j : ℕ) (before batch : List Item) (closed : IsClosed before) (next :
         crumb_of = tt;
       }
 
-  pub published_none : (c : Crumb) (old : Option (List ℕ)) (n : ℕ) → CrumbOf c before → IsMadeFor (book false before) (book true all) Unchanged → IsPublished j (Ok tt) c before all old old n n
+  pub published_none : (c : Crumb) (old : Option (List ℕ)) (n : ℕ) → CrumbOf c before → IsMadeFor (book false before) (book true longer) Unchanged → IsPublished j (Ok tt) c before longer old old n n
   published_none c old n k made =
-      let same : book true all ≡ book true before = made ∙ sym (book_same before closed) in
+      let same : book true longer ≡ book true before = made ∙ sym (book_same before closed) in
       let P : List Entry → Type 0 = Stands c in
       record {
         bytes = [];
-        more = grown_same before all j same;
+        more = grown_same before longer j same;
         gave = (Appends-same old, omega arith);
-        crumb_of = record { stands = subst P (sym same) k.stands; cut = omega (arith, k.cut, longer) };
+        crumb_of = record { stands = subst P (sym same) k.stands; cut = omega (arith, k.cut, no_shorter) };
       }
 
   -- the next breadcrumb's cut is the batch's
@@ -96,22 +96,22 @@ module _ (j : ℕ) (before batch : List Item) (closed : IsClosed before) (next :
       omega (arith, ap last_cut e, le)
 
   pub published_next : (r : Result (Unit {0}) Unwritten) (last c : Crumb) (cut : ℕ) (old new : Option (List ℕ)) (n m : ℕ) → CrumbOf last before → cut ≡ length before + length batch
-      → IsMadeFor (book false before) (book true all) (Next c) → entries_of (Next c) ≡ next_entries cut (world_of last) batch → Gave r old new n m (frames (crumb_messages j last.status c))
-      → IsPublished j r c before all old new n m
+      → IsMadeFor (book false before) (book true longer) (Next c) → entries_of (Next c) ≡ next_entries cut (world_of last) batch → Gave r old new n m (frames (crumb_messages j last.status c))
+      → IsPublished j r c before longer old new n m
   published_next r last c cut old new n m k at made es g =
       let w : World = folded before in
       let v : World = fold after w batch in
       let e : Entry = entry_of (length before + length batch) w v batch in
       let short : book true before ≡ book false before = book_same before closed in
       let status : last.status ≡ (replay (book true before)).status = ap (λ (x : World). x.status) k.stands.world in
-      let grown : book true all ≡ book true before ++ next_entries (length before + length batch) w batch =
+      let grown : book true longer ≡ book true before ++ next_entries (length before + length batch) w batch =
       the_book_grows true before batch closed next ∙ ap (λ l. l ++ next_entries (length before + length batch) w batch) (sym short) in
-      let more : streamed all j ≡ streamed before j ++ frames (crumb_messages j last.status c) =
-      elim (same_world w v) as (λ b. book true all ≡ book true before ++ cond b [] (e ∷ []) → streamed all j ≡ streamed before j ++ frames (crumb_messages j last.status c)) [
+      let more : streamed longer j ≡ streamed before j ++ frames (crumb_messages j last.status c) =
+      elim (same_world w v) as (λ b. book true longer ≡ book true before ++ cond b [] (e ∷ []) → streamed longer j ≡ streamed before j ++ frames (crumb_messages j last.status c)) [
         | true ↦ λ h. absurd (made.1 (h ∙ append-nil (book true before) ∙ short))
         | false ↦ λ h.
             let P : List Entry → Type 0 = Stands c in
-            grown_by before all j (book true before ++ e ∷ []) (crumb_messages j last.status c) h (crumb_told (book true before) e j last.status c status (subst P h made.0))
+            grown_by before longer j (book true before ++ e ∷ []) (crumb_messages j last.status c) h (crumb_told (book true before) e j last.status c status (subst P h made.0))
       ] grown in
       record {
         bytes = frames (crumb_messages j last.status c);
