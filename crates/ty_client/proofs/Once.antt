@@ -7,7 +7,7 @@ use Rattle.std.proofs.lemmas.Bool.{cases_lt}
 use Rattle.std.proofs.lemmas.List.{take_all, take-append-le, take-append-drop}
 use Rattle.std.proofs.Math.Seq.{take-append_seam}
 use Rattle.ty_wire.specs.Wire.{IsWire, frame, frames}
-use Rattle.ty_wire.specs.Stream.{Brings, IsFault, Breaks, read_part}
+use Rattle.ty_wire.specs.Stream.{Brings, Breaks, read_part}
 use Rattle.ty_wire.specs.declared.message.Msg.{Msg}
 use Rattle.ty_wire.specs.declared.splitting.WireFault.{WireFault}
 use Rattle.ty_wire.specs.declared.splitting.WireFault.TheVariants.{TooLong, NotJson, Shape, TooMuch}

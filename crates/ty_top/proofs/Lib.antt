@@ -8,4 +8,5 @@ pub mod Published
 pub mod FeedGrows
 pub mod ReadSoFar
 pub mod Ends
+pub mod Followings
 pub mod BothEnds

@@ -26,7 +26,7 @@ all_rise : (k j most : ℕ) → j + k ≤ most → Rise j (range_with_len (j + 1
 all_rise zero j most h = omega (arith, h)
 all_rise (suc k) j most h = (omega arith, all_rise k (j + 1) most (omega (arith, h)))
 
-numbers_rise : (items : List Item) (j : ℕ) → j ≤ last true items → Rise j (range_with_len (j + 1) (last true items - j)) (length (book true items))
+pub numbers_rise : (items : List Item) (j : ℕ) → j ≤ last true items → Rise j (range_with_len (j + 1) (last true items - j)) (length (book true items))
 numbers_rise items j h = all_rise (last true items - j) j (length (book true items)) (omega (arith, book_length true items, h))
 
 -- ---- a front

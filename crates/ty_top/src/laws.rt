@@ -1,9 +1,14 @@
 // Laws of the definitions.
-ghost use Rattle.std.specs.Prelude.{◌≡◌, ◌≤◌, ◌<◌, ◌+◌, ◌-◌, ◌^◌, ◌++◌, ◌∷◌, Bool, List, ℕ, [], None, Some, true, length, map};
+ghost use Rattle.std.specs.Prelude.{◌≡◌, ◌≤◌, ◌<◌, ◌+◌, ◌-◌, ◌^◌, ◌++◌, ◌∷◌, List, ℕ, Bool, [], None, Some, true, length, map};
+ghost use Rattle.std.specs.Io.KnownBytes.{Appends};
 ghost use Rattle.std.specs.List.{All, list_all, range_with_len};
 ghost use Rattle.ty_base.specs.declared.item.Item.{Item};
 ghost use Rattle.ty_base.specs.Feed.{folded, last, world};
 ghost use Rattle.ty_wire.specs.declared.message.Msg.{Msg};
+ghost use Rattle.ty_client.specs.declared.fault.StreamFault.{StreamFault};
+ghost use Rattle.ty_client.specs.declared.following.FollowFault.TheVariants.{Stream, Cut};
+ghost use Rattle.ty_client.specs.Following.{Seen, Ended, StoppedBy};
+ghost use Rattle.ty_client.specs.Texts.{text_of};
 ghost use Rattle.ty_client.specs.Rebuilt.{ats};
 ghost use Rattle.ty_client.specs.Heard.{Hears};
 ghost use Rattle.ty_client.specs.Worlds.{IsRising, within_limits, IsWorldAt, rebuilt_at};
@@ -35,11 +40,27 @@ pub fn whole_streams_rebuild_every_world()
     ensures fold { (items : List Item) → world true items (last true items) ≡ folded items }
 {}
 
+/// `follow` over a source that has left what `stream` writes from breadcrumb j on: where it comes to the end, it has
+/// written the text of the worlds from j to the last, each once and in order. It finds no fault, and the end is in no
+/// frame.
+pub fn followed_streams_tell_every_world()
+    ensures told { (brief : Bool) (items : List Item) (j : ℕ) (old new : Seen)
+        → list_all within_limits items ≡ true → length items < 2 ^ 64 → j ≤ last true items
+        → old.left ≡ Some (streamed items j) → Ended brief old new []
+        → Appends old.held new.held (text_of brief (map (rebuilt_at true items) (j ∷ range_with_len (j + 1) (last true items - j)))) }
+    ensures good { (brief : Bool) (items : List Item) (j : ℕ) (old new : Seen) (f : StreamFault)
+        → list_all within_limits items ≡ true → length items < 2 ^ 64 → length (streamed items j) < 2 ^ 40
+        → old.left ≡ Some (streamed items j) → ¬ (StoppedBy brief old new (Stream f)) }
+    ensures uncut { (brief : Bool) (items : List Item) (j : ℕ) (old new : Seen) (left : ℕ)
+        → list_all within_limits items ≡ true → length items < 2 ^ 64
+        → old.left ≡ Some (streamed items j) → ¬ (StoppedBy brief old new (Cut left)) }
+{}
+
 /// Where `stream` ended at status 0, and `follow` reads all that it wrote, `follow` prints the worlds of the feed from
 /// breadcrumb j to the last, each once and in order: at breadcrumb n the fold from scratch of the feed's items up to cut n.
 pub fn both_ends_agree()
     ensures { (j : ℕ) (brief : Bool) (server server_after client client_after : Seen) (bytes : List ℕ)
-        → Streams j Ending.Done server server_after → server.held ≡ Some [] → server_after.held ≡ Some bytes → length bytes < 2 ^ 40
+        → Streams j Ending.Done server server_after → server.held ≡ Some [] → server_after.held ≡ Some bytes
         → Ended brief client client_after [] → client.left ≡ Some bytes → client.held ≡ Some []
         → (read : FeedSoFar) × Taken server server_after read × (fault_of read ≡ None)
         × (j ≤ last true (items_of read) → client_after.held

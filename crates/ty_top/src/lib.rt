@@ -12,7 +12,10 @@ mod top;
 mod words;
 
 pub use ending::Local;
-pub use laws::{both_ends_agree, streams_rebuild_the_worlds, whole_streams_rebuild_every_world};
+pub use laws::{
+    both_ends_agree, followed_streams_tell_every_world, streams_rebuild_the_worlds,
+    whole_streams_rebuild_every_world,
+};
 pub use plain::plain_stream;
 pub use top::local;
 

@@ -1,0 +1,5 @@
+use Rattle.ty_top.proofs.Followings.{told, good, uncut}
+use Rattle.ty_top.proofs.laws.followed_streams_tell_every_world.Goals as goal
+
+pub returns : goal.returns
+returns c = record { told = told; good = good; uncut = uncut }
