@@ -20,7 +20,8 @@ pub fn one_hearing()
     ensures bytes { (bytes : List ℕ) (ms ns : List Msg) (f g : Option StreamFault) → Hears bytes ms f → Hears bytes ns g
         → (ms ≡ ns) × (f ≡ g) }
     ensures short { (bytes : List ℕ) (ms : List Msg) → Hears bytes ms None → length bytes < 2 ^ 40 }
-    ensures connections { (connections : List (List ℕ)) (x y : Option Rebuilt) → Holds connections x → Holds connections y → x ≡ y }
+    ensures connections { (connections : List (List ℕ)) (x y : Option Rebuilt) → Holds connections x → Holds connections y
+        → x ≡ y }
 {}
 
 /// Each front of a talk over a list of entries reads without a fault, its crumb numbers rise, and what is rebuilt at

@@ -47,7 +47,8 @@ pub fn followed_streams_tell_every_world()
     ensures told { (brief : Bool) (items : List Item) (j : ℕ) (old new : Seen)
         → list_all within_limits items ≡ true → length items < 2 ^ 64 → j ≤ last true items
         → old.left ≡ Some (streamed items j) → Ended brief old new []
-        → Appends old.held new.held (text_of brief (map (rebuilt_at true items) (j ∷ range_with_len (j + 1) (last true items - j)))) }
+        → Appends old.held new.held
+        (text_of brief (map (rebuilt_at true items) (j ∷ range_with_len (j + 1) (last true items - j)))) }
     ensures good { (brief : Bool) (items : List Item) (j : ℕ) (old new : Seen) (f : StreamFault)
         → list_all within_limits items ≡ true → length items < 2 ^ 64 → length (streamed items j) < 2 ^ 40
         → old.left ≡ Some (streamed items j) → ¬ (StoppedBy brief old new (Stream f)) }
