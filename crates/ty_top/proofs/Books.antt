@@ -1,7 +1,7 @@
 -- A book's groups, one entry at a time.
-use Rattle.std.proofs.Common.{◌≡◌, ℕ, zero, suc, ◌+◌, ◌-◌, ◌<◌, ◌≤◌, Bool, true, false, cond, List, [], ◌∷◌, ◌++◌, length, take, drop, map, refl, sym, ap, subst, ◌∙◌, arith, add-one, get_or, append_assoc, append-nil, drop-cons}
-use Rattle.std.specs.Prelude.{Option, None, Some, flat_map}
-use Rattle.std.specs.List.{range_with_len, slice_range, fold}
+use Rattle.std.proofs.Common.{◌≡◌, ℕ, ◌+◌, ◌-◌, ◌<◌, true, cond, List, [], ◌∷◌, ◌++◌, length, take, sym, ap, ◌∙◌, arith, get_or, append_assoc}
+use Rattle.std.specs.Prelude.{Some}
+use Rattle.std.specs.List.{range_with_len}
 use Rattle.std.proofs.lemmas.List.{take_more}
 use Rattle.std.proofs.lemmas.List.Sums.{fold-append}
 use Rattle.std.proofs.lemmas.Grind.{flat_map-append}
@@ -10,7 +10,7 @@ use Rattle.ty_base.specs.declared.item.Item.{Item}
 use Rattle.ty_base.specs.Feed.{World, replay, published, start, last_of, book, last, entry}
 use Rattle.ty_base.proofs.Cuts.{range_split}
 use Rattle.ty_wire.specs.Wire.{frames, frame}
-use Rattle.ty_wire.specs.Talk.{talk, opening, groups_after, group_between, group, deltas_between, status_change, world_after}
+use Rattle.ty_wire.specs.Talk.{talk, opening, groups_after, group_between, group, status_change, world_after}
 use Rattle.ty_wire.specs.declared.message.Msg.{Msg}
 use Rattle.ty_base.specs.declared.status.Status.TheVariants.{Wait}
 use Rattle.ty_wire.specs.declared.message.Msg.TheVariants.{ServerHello}

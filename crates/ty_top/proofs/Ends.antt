@@ -1,7 +1,5 @@
 -- Endings by their status.
-use Rattle.std.proofs.Common.{◌≡◌, ◌≢◌, true, false, true≢false, ℕ, ◌<◌, ◌^◌, Bool, List, [], length, arith, ap, sym, ◌∙◌}
-use Rattle.std.specs.Prelude.{Option}
-use Rattle.std.specs.Io.KnownBytes.{Consumes, IsAtEnd}
+use Rattle.std.proofs.Common.{◌≡◌, ◌≢◌, true, false, true≢false, ℕ, Bool, [], arith, ap, sym, ◌∙◌}
 use Rattle.ty_wire.specs.declared.splitting.WireFault.TheVariants as wire
 use Rattle.ty_intake.specs.declared.intake.IntakeFault.{IntakeFault}
 use Rattle.ty_intake.specs.declared.intake.IntakeFault.TheVariants as feed

@@ -1,14 +1,14 @@
 -- A longer feed has the batches of the shorter one, and perhaps more.
-use Rattle.std.proofs.Common.{◌≡◌, ℕ, zero, suc, ◌+◌, ◌-◌, ◌<◌, ◌≤◌, ◌^◌, ◌%◌, ◌==◌, Bool, true, false, cond, not, ◌&&◌, ◌||◌, List, [], ◌∷◌, ◌++◌, length, take, drop, refl, sym, ap, subst, ◌∙◌, arith, append_assoc, append-nil, length-append, length-drop}
+use Rattle.std.proofs.Common.{◌≡◌, ℕ, zero, suc, ◌+◌, ◌-◌, ◌≤◌, ◌^◌, ◌%◌, ◌==◌, Bool, true, false, cond, not, ◌&&◌, ◌||◌, List, [], ◌∷◌, ◌++◌, length, take, drop, refl, sym, ap, ◌∙◌, arith, append-nil, length-append, length-drop}
 use Rattle.std.specs.Prelude.{Option, None, Some, is_some}
 use Rattle.std.specs.List.{filter, filter_map, cons_option, take_while, prefix_len, range_with_len, slice_range, suffix_len}
 use Rattle.std.proofs.lemmas.List.{take-append-le, drop-append-le}
-use Rattle.std.proofs.lemmas.List.Elements.{filter-append, filter_map-append}
+use Rattle.std.proofs.lemmas.List.Elements.{filter-append}
 use Rattle.ty_base.specs.declared.item.Item.{Item}
 use Rattle.ty_base.specs.Feed.{is_update, is_closing, closings, last_of}
 use Rattle.ty_base.proofs.Cuts.{range_split}
 use Rattle.ty_intake.specs.declared.batch.Closed.{Closed}
-use Rattle.ty_intake.specs.Lines.{Feed, Cut, onto_first, cut_lines, cut_of, is_too_much, last_line, lines_of, fed_with}
+use Rattle.ty_intake.specs.Lines.{Feed, onto_first, cut_lines, cut_of, is_too_much, last_line, lines_of}
 use Rattle.ty_intake.specs.Faults.{fault_of}
 use Rattle.ty_intake.specs.Saying.{item_by}
 use Rattle.ty_intake.specs.Batches.{is_good, items_of, is_whole, batches_between, batches, batches_of}

@@ -1,6 +1,6 @@
 -- What is streamed of a list of items grows with each batch.
 use Rattle.std.proofs.Common.{◌≡◌, ℕ, zero, suc, ◌+◌, ◌-◌, ◌<◌, ◌≤◌, ◌%◌, ◌==◌, Bool, true, false, cond, ◌&&◌, ◌||◌, List, [], ◌∷◌, ◌++◌, length, take, map, refl, sym, ap, subst, ◌∙◌, inl, inr, arith, append_assoc, append-nil, length-append, nat_le, eq-eqb, ne_eqb, eqb-true, lt-ltb, le-ltb, eq-or-lt_of_le, true≢false}
-use Rattle.std.specs.Prelude.{flat_map, slice_index, nat_lt, Option, None, Some}
+use Rattle.std.specs.Prelude.{slice_index, nat_lt, Some}
 use Rattle.std.specs.List.{filter, filter_map, fold, range_with_len, slice_range, suffix_len}
 use Rattle.std.proofs.lemmas.Bool.Decides.{leb_tells}
 use Rattle.std.proofs.lemmas.Grind.{flat_map-append}
@@ -12,7 +12,7 @@ use Rattle.ty_base.specs.declared.status.Status.{Status}
 use Rattle.ty_base.specs.Feed.{World, after, folded, is_update, is_closing, closings, cuts_after, cuts, last, world_at, same_world, last_of, key_of, firsts, changes, deltas, entry, book, replay}
 use Rattle.ty_crumb.specs.Batches.{IsClosed, IsNextBatch, entry_of, next_entries}
 use Rattle.ty_crumb.specs.declared.crumb.Crumb.{Crumb}
-use Rattle.ty_crumb.specs.Crumbs.{Stands, world_of, snapshot_of}
+use Rattle.ty_crumb.specs.Crumbs.{Stands, snapshot_of}
 use Rattle.ty_crumb.proofs.Growing.{the_book_grows}
 use Rattle.ty_intake.specs.declared.batch.Closed.{Closed}
 use Rattle.ty_intake.specs.Batches.{batches}

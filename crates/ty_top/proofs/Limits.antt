@@ -1,13 +1,12 @@
 -- Small items make a book whose deltas a message can hold.
-use Rattle.std.proofs.Common.{◌≡◌, ℕ, ◌≤◌, Bool, true, ◌&&◌, List, [], ◌∷◌, length, map, refl, sym, ap, ◌∙◌, nat_le, arith}
+use Rattle.std.proofs.Common.{◌≡◌, ℕ, ◌≤◌, Bool, true, ◌&&◌, List, [], ◌∷◌, length, map, refl, sym, ap, ◌∙◌, nat_le}
 use Rattle.std.proofs.lemmas.Bool.{le-leb}
 use Rattle.std.specs.Prelude.{Option, None, Some, All}
 use Rattle.std.specs.List.{list_all, range_with_len, AllByRecursion}
-use Rattle.std.proofs.lemmas.List.Elements.{recursion_from_All, All-from_recursion}
+use Rattle.std.proofs.lemmas.List.Elements.{All-from_recursion}
 use Rattle.ty_base.specs.declared.item.Item.{Item}
 use Rattle.ty_base.specs.declared.item.Item.TheVariants.{Put, Del, State, Mark}
 use Rattle.ty_base.specs.declared.delta.Delta.{Delta}
-use Rattle.ty_base.specs.declared.entry.Entry.{Entry}
 use Rattle.ty_base.specs.Feed.{book, entry, last}
 use Rattle.ty_base.specs.Passing.{option_passes, item_passes, delta_passes}
 use Rattle.ty_base.proofs.Passing.{both, left, right, deltas_pass}

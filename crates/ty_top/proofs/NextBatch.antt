@@ -1,9 +1,8 @@
 -- Which batch of a list of items comes next, and that it is one.
 use Rattle.std.proofs.Common.{◌≡◌, ℕ, zero, suc, ◌+◌, ◌-◌, ◌<◌, ◌≤◌, ◌%◌, ◌==◌, ◌⊎◌, Bool, true, false, cond, ◌&&◌, ◌||◌, List, [], ◌∷◌, ◌++◌, length, take, drop, refl, sym, ap, subst, ◌∙◌, inl, inr, arith, add-one, get_or, append_assoc, append-nil, take-add, take_all, eq-eqb, ne_eqb, eq-or-lt_of_le, true≢false, length-append, length-drop, eqb-true}
-use Rattle.std.specs.Prelude.{flat_map}
-use Rattle.std.specs.List.{filter, range_with_len, slice_range, suffix_len, list_all, count_by}
+use Rattle.std.specs.List.{filter, range_with_len, slice_range, suffix_len, list_all}
 use Rattle.std.proofs.lemmas.Grind.{flat_map-append}
-use Rattle.std.proofs.lemmas.List.{take_more, take-take, length-take-le, get_or_append_left}
+use Rattle.std.proofs.lemmas.List.{take_more, take-take, length-take-le}
 use Rattle.std.proofs.lemmas.List.Sums.{suffix_len-take_yes, suffix_len-take_no, count_by-le-length}
 use Rattle.std.proofs.lemmas.List.Folds.{list_all-append}
 use Rattle.std.proofs.lemmas.Bool.Decides.{leb_tells}

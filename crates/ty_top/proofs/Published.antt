@@ -1,7 +1,6 @@
 -- The breadcrumbs that batches make were given.
-use Rattle.std.proofs.Common.{◌≡◌, ◌≢◌, ℕ, zero, suc, ◌+◌, ◌<◌, ◌≤◌, ◌^◌, ◌&&◌, Bool, true, false, cond, List, [], ◌∷◌, ◌++◌, length, take, drop, refl, sym, ap, subst, ◌∙◌, arith, append_assoc, append-nil, length-append, get_or, take-append-drop, drop-cons, add-one}
+use Rattle.std.proofs.Common.{◌≡◌, ℕ, zero, suc, ◌+◌, ◌<◌, ◌≤◌, ◌^◌, Bool, true, false, cond, List, [], ◌∷◌, ◌++◌, length, take, drop, refl, sym, ap, subst, ◌∙◌, arith, append_assoc, append-nil, length-append, get_or, take-append-drop, drop-cons, add-one}
 use Rattle.std.specs.Prelude.{Option, None, Some, Result, Ok, Err, OnOk}
-use Rattle.std.specs.Io.KnownBytes.{Appends}
 use Rattle.std.specs.List.{fold, filter, range_with_len, list_all}
 use Rattle.std.proofs.lemmas.List.{take_more}
 use Rattle.std.proofs.lemmas.List.Folds.{list_all-append}
@@ -16,7 +15,6 @@ use Rattle.ty_base.specs.declared.entry.Entry.{Entry}
 use Rattle.ty_base.specs.declared.status.Status.{Status}
 use Rattle.ty_base.specs.Feed.{World, after, folded, closings, cuts_after, cuts, last, world_at, same_world, entry, book, is_closing, replay}
 use Rattle.ty_base.specs.Causes.{Rose}
-use Rattle.ty_base.specs.Fronts.{AppendsFront}
 use Rattle.ty_base.proofs.Known.{Appends-then, Appends-same, AppendsFront-more, AppendsFront-after}
 use Rattle.ty_crumb.specs.Batches.{IsBatch, IsClosed, IsNextBatch, entry_of, next_entries}
 use Rattle.ty_crumb.specs.declared.crumb.Crumb.{Crumb}

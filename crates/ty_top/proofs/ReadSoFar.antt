@@ -1,5 +1,5 @@
 -- A feed that is read piece by piece: what was stated of it.
-use Rattle.std.proofs.Common.{◌≡◌, ℕ, ◌+◌, ◌<◌, ◌≤◌, ◌^◌, ◌&&◌, Bool, true, false, cond, not, List, [], ◌∷◌, ◌++◌, length, take, refl, sym, ap, subst, ◌∙◌, arith, append_assoc, append-nil, length-append, leb-false, true≢false}
+use Rattle.std.proofs.Common.{◌≡◌, ℕ, ◌+◌, ◌<◌, ◌≤◌, ◌^◌, true, false, cond, not, List, [], ◌++◌, length, refl, sym, ap, subst, ◌∙◌, arith, append-nil, length-append, leb-false, true≢false}
 use Rattle.std.specs.Prelude.{Option, None, Some, Result, Ok, Err, is_some}
 use Rattle.std.specs.Option.{option_or}
 use Rattle.std.specs.List.{list_all}
@@ -21,7 +21,7 @@ use Rattle.ty_intake.specs.declared.intake.IntakeFault.{IntakeFault}
 use Rattle.ty_intake.specs.declared.intake.IntakeFault.TheVariants.{TooMuch}
 use Rattle.ty_intake.specs.Lines.{Feed as FeedSoFar, fed_with, ended_now, no_feed, is_too_much, lines_of, cut_of, cut_lines}
 use Rattle.ty_intake.specs.Faults.{fault_of, first_fault, rest_fault, end_fault}
-use Rattle.ty_intake.specs.Batches.{items_of, is_whole, batches, batches_of, batch_fits, closed_items}
+use Rattle.ty_intake.specs.Batches.{items_of, is_whole, batches_of, batch_fits, closed_items}
 use Rattle.ty_intake.specs.Standing.{Held, Stands as IntakeStands}
 use Rattle.ty_intake.proofs.Joining.{joined-of, few-of, whole-of, none-of}
 use Rattle.ty_top.specs.Streamed.{streamed}

@@ -1,14 +1,12 @@
 -- What is told of a book with one entry more.
-use Rattle.std.proofs.Common.{◌≡◌, ℕ, zero, suc, ◌+◌, ◌-◌, ◌<◌, ◌≤◌, Bool, true, false, cond, List, [], ◌∷◌, ◌++◌, length, take, drop, map, refl, sym, ap, subst, ◌∙◌, arith, add-one, get_or, append_assoc, append-nil, drop-cons, length-append, length-drop, nat_le}
-use Rattle.std.specs.Prelude.{Option, None, Some, flat_map}
-use Rattle.std.specs.List.{range_with_len, slice_range, fold}
-use Rattle.std.proofs.lemmas.List.{take_more, take_all, take-append-le, drop-append-le}
-use Rattle.std.proofs.lemmas.List.Sums.{fold-append}
+use Rattle.std.proofs.Common.{◌≡◌, ℕ, zero, suc, ◌+◌, ◌-◌, ◌<◌, ◌≤◌, cond, List, [], ◌∷◌, ◌++◌, length, take, drop, map, refl, sym, ap, ◌∙◌, arith, get_or, append_assoc, append-nil, drop-cons, length-append, length-drop, nat_le}
+use Rattle.std.specs.Prelude.{Some, flat_map}
+use Rattle.std.specs.List.{range_with_len}
+use Rattle.std.proofs.lemmas.List.{take_all, take-append-le, drop-append-le}
 use Rattle.std.proofs.lemmas.Bool.{le-leb, lt-leb}
-use Rattle.std.proofs.lemmas.Grind.{flat_map-append}
 use Rattle.std.proofs.Math.Seq.{get_or-append_seam}
 use Rattle.ty_base.specs.declared.entry.Entry.{Entry}
-use Rattle.ty_base.specs.Feed.{World, replay, published, start, last_of}
+use Rattle.ty_base.specs.Feed.{World, replay, last_of}
 use Rattle.ty_base.proofs.Cuts.{range_split}
 use Rattle.ty_wire.specs.Talk.{talk, opening, first_group, groups_after, group_between, group, deltas_between, status_change, world_after}
 use Rattle.ty_wire.specs.declared.message.Msg.{Msg}

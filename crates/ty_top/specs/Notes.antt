@@ -1,5 +1,5 @@
 -- What is told of an ending.
-use Rattle.std.specs.Prelude.{ℕ, ◌≤◌, ◌⊎◌, List, [], ◌∷◌, ◌++◌, codes, decimal, flat_map, Option}
+use Rattle.std.specs.Prelude.{ℕ, ◌≤◌, ◌⊎◌, List, [], ◌++◌, codes, decimal, Option}
 use Rattle.std.specs.Io.KnownBytes.{Appends}
 use Rattle.ty_base.specs.Causes.{Rose}
 use Rattle.ty_base.specs.Fronts.{AppendsFront}

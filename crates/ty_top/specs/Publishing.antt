@@ -1,5 +1,5 @@
 -- For private clauses: breadcrumbs that are published as the feed is read.
-use Rattle.std.specs.Prelude.{◌≡◌, ◌≤◌, ◌<◌, ◌^◌, ℕ, nat_lt, ◌==◌, Bool, true, false, List, [], ◌++◌, length, flat_map, Option, None, Some, Result, Ok, Err, OnOk, if◌then◌else◌}
+use Rattle.std.specs.Prelude.{◌≡◌, ◌≤◌, ◌<◌, ◌^◌, ℕ, nat_lt, ◌==◌, Bool, true, List, [], ◌++◌, length, flat_map, Option, None, Some, Result, Ok, Err, OnOk, if◌then◌else◌}
 use Rattle.std.specs.List.{list_all}
 use Rattle.std.specs.Io.KnownBytes.{Appends}
 use Rattle.ty_base.specs.declared.item.Item.{Item}

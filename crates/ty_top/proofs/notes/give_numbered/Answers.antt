@@ -1,5 +1,5 @@
-use Rattle.std.proofs.Common.{◌++◌, List, ℕ}
-use Rattle.std.specs.Prelude.{decimal, codes}
+use Rattle.std.proofs.Common.{◌++◌}
+use Rattle.std.specs.Prelude.{decimal}
 use Rattle.ty_base.proofs.Known.{Appends-then, AppendsFront-more, AppendsFront-after}
 use Rattle.ty_top.proofs.notes.give_numbered.Goals as goal
 

@@ -1,4 +1,4 @@
-use Rattle.std.proofs.Common.{◌++◌, List, ℕ}
+use Rattle.std.proofs.Common.{◌++◌}
 use Rattle.std.specs.Prelude.{decimal, codes}
 use Rattle.ty_base.proofs.Known.{Appends-then, AppendsFront-more, AppendsFront-after}
 use Rattle.ty_top.specs.Notes.{numbered_twice}

@@ -1,4 +1,4 @@
-use Rattle.std.proofs.Common.{◌+◌, ◌++◌, ◌∙◌, refl, ap, sym, append-nil, arith}
+use Rattle.std.proofs.Common.{◌+◌, ◌++◌, ◌∙◌, refl, ap, sym, append-nil}
 use Rattle.ty_base.specs.declared.status.Status.{Status}
 use Rattle.ty_base.specs.Feed.{World, replay}
 use Rattle.ty_wire.specs.Wire.{frames}

@@ -1,9 +1,6 @@
-use Rattle.std.proofs.Common.{◌≡◌, [], ◌∷◌, ◌++◌, ◌∙◌, sym, ap, lit<, append-nil}
+use Rattle.std.proofs.Common.{lit<}
 use Rattle.ty_base.specs.declared.status.Status.TheVariants.{Wait}
-use Rattle.ty_wire.specs.Wire.{frame, frames}
-use Rattle.ty_wire.specs.declared.message.Msg.TheVariants.{ServerHello}
 use Rattle.ty_wire.proofs.Short.{server_hello-fits}
-use Rattle.ty_top.specs.Publishing.{crumb_messages}
 use Rattle.ty_top.proofs.Published.{opened}
 use Rattle.ty_top.proofs.publishing.opening.Goals as goal
 

@@ -1,4 +1,4 @@
-use Rattle.std.proofs.Common.{◌≡◌, ap, sym, ◌∙◌}
+use Rattle.std.proofs.Common.{ap, sym, ◌∙◌}
 use Rattle.ty_crumb.specs.Batches.{next_entries}
 use Rattle.ty_crumb.specs.Crumbs.{world_of, entries_of}
 use Rattle.ty_crumb.specs.declared.next.Made.TheVariants.{Unchanged, Crumb as Next}

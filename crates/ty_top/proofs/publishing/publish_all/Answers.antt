@@ -1,6 +1,3 @@
-use Rattle.std.proofs.Common.{◌≡◌, ◌++◌, ◌∷◌, ◌<◌, take, drop, length, ap, sym, ◌∙◌, arith, refl}
-use Rattle.ty_intake.specs.declared.batch.Closed.{Closed}
-use Rattle.ty_top.specs.Publishing.{Owed, IsPublished, joined}
 use Rattle.ty_top.proofs.Published.{batch_owed, cut_owed, few_owed, published_begins, published_step, published_stops}
 use Rattle.ty_top.proofs.publishing.publish_all.Goals as goal
 

@@ -1,11 +1,9 @@
 use Rattle.std.proofs.Common.{◌≡◌, ◌<◌, ◌≤◌, ◌^◌, rules, arith, refl, sym, ◌∙◌, ap, take, length, subst, List, ℕ}
 use Rattle.std.proofs.lemmas.Grind.{common_steps}
-use Rattle.std.specs.Prelude.{Option}
-use Rattle.std.specs.Io.KnownBytes.{Appends, Consumes}
+use Rattle.std.specs.Io.KnownBytes.{Consumes}
 use Rattle.ty_base.proofs.Known.{Consumes-same, Consumes-kept}
 use Rattle.ty_client.specs.Following.{Seen}
 use Rattle.ty_client.proofs.Followed.{take_same, length_take, consumed_end}
-use Rattle.ty_top.specs.declared.publishing.Unwritten.TheVariants.{Sink, Memory as Short}
 use Rattle.ty_top.proofs.ReadSoFar.{first_crumb, opening_unwritten, opening_short, whole_front, short_first, reading_begins, reading_more, reading_short, reading_failed, reading_stops, reading_ends, rose_later}
 use Rattle.ty_top.proofs.streaming.stream_source.Goals as goal
 
