@@ -1,5 +1,5 @@
 -- What is within the limits stays so from the items to the map and the deltas.
-use Rattle.std.proofs.Common.{◌≡◌, ℕ, Bool, true, false, cond, not, ◌&&◌, List, [], ◌∷◌, refl, ap, ◌∙◌}
+use Rattle.std.proofs.Common.{◌≡◌, ℕ, Bool, true, false, cond, not, ◌&&◌, List, [], ◌∷◌, refl}
 use Rattle.std.specs.Prelude.{Option, None, Some}
 use Rattle.std.specs.declared.cmp.Ordering.TheVariants.{Less, Equal, Greater}
 use Rattle.std.specs.List.{fold, filter, filter_map, list_all, cons_option}
@@ -10,7 +10,7 @@ use Rattle.std.specs.FinMap.Entries.{by_order}
 use Rattle.ty_base.specs.declared.item.Item.{Item}
 use Rattle.ty_base.specs.declared.item.Item.TheVariants.{Put, Del, State, Mark}
 use Rattle.ty_base.specs.declared.delta.Delta.{Delta}
-use Rattle.ty_base.specs.declared.delta.Kind.TheVariants.{New, Updated}
+use Rattle.ty_base.specs.declared.delta.Kind.TheVariants.{Updated}
 use Rattle.ty_base.specs.Feed.{Pairs, World, get, insert, after, key_of, firsts, change, changes}
 use Rattle.ty_base.specs.Passing.{option_passes, pair_passes, item_passes, delta_passes}
 use Rattle.ty_base.proofs.Passing.{both, left, right, get_passes}

@@ -1,18 +1,17 @@
 -- The book behind one more batch.
-use Rattle.std.proofs.Common.{◌≡◌, ℕ, zero, suc, ◌+◌, ◌-◌, ◌<◌, ◌≤◌, Bool, true, false, cond, List, [], ◌∷◌, ◌++◌, length, take, drop, map, refl, sym, ap, subst, ◌∙◌, arith, add-one, get_or, append_assoc, append-nil, length-append, true≢false, inl, inr, zero-add, lt-ltb, le-ltb, ne_eqb, eq-or-lt_of_le, ◌==◌, ◌%◌, ◌&&◌, ◌||◌}
+use Rattle.std.proofs.Common.{◌≡◌, ℕ, zero, suc, ◌+◌, ◌-◌, ◌<◌, ◌≤◌, Bool, true, false, cond, List, [], ◌∷◌, ◌++◌, length, take, map, refl, sym, ap, subst, ◌∙◌, arith, add-one, get_or, append-nil, length-append, inl, inr, lt-ltb, le-ltb, ne_eqb, eq-or-lt_of_le, ◌==◌, ◌%◌, ◌&&◌, ◌||◌}
 use Rattle.std.specs.Bool.{nat_lt}
 use Rattle.std.specs.List.{filter, filter_map, range_with_len, fold, slice_range, suffix_len}
 use Rattle.std.proofs.lemmas.List.Elements.{filter-append}
 use Rattle.std.proofs.lemmas.List.Sums.{fold-append}
 use Rattle.std.proofs.lemmas.List.FromFn.{map-range_with_len_more}
-use Rattle.std.proofs.lemmas.List.{take-append-le, drop-append-le, take_all}
+use Rattle.std.proofs.lemmas.List.{take-append-le, take_all}
 use Rattle.ty_base.specs.declared.item.Item.{Item}
-use Rattle.ty_base.specs.declared.entry.Entry.{Entry}
 use Rattle.ty_base.specs.Feed.{World, start, after, folded, is_update, is_closing, closings, cuts_after, cuts, cut, last, world, world_at, same_world, last_of, closing_before, key_of, firsts, changes, deltas, entry, book}
-use Rattle.ty_base.specs.Readings.{AllNext, IsNextCut}
+use Rattle.ty_base.specs.Readings.{AllNext}
 use Rattle.std.proofs.Math.Seq.{drop-append_seam, get_or-append_seam}
-use Rattle.ty_base.proofs.Cuts.{passed, passed_more, range_split, below_all, above_none, AllFollow, all_follow, follow_at, Follows}
-use Rattle.ty_base.proofs.More.{world_more, first_cuts, cut_more, same_world_more, deltas_more}
+use Rattle.ty_base.proofs.Cuts.{passed, passed_more, range_split}
+use Rattle.ty_base.proofs.More.{world_more, cut_more, same_world_more, deltas_more}
 use Rattle.ty_base.proofs.Reading.{cuts_are}
 use Rattle.ty_crumb.specs.Batches.{IsClosed, IsNextBatch, entry_of, next_entries}
 

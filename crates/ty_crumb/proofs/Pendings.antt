@@ -1,8 +1,8 @@
 -- What a batch makes over a world, by what it leaves pending.
-use Rattle.std.proofs.Common.{◌≡◌, ◌≢◌, ℕ, ◌+◌, ◌==◌, Bool, true, false, cond, not, ◌||◌, ◌&&◌, List, [], ◌∷◌, ◌++◌, length, map, reverse, refl, sym, ap, ◌∙◌, true≢false, arith}
+use Rattle.std.proofs.Common.{◌≡◌, ℕ, ◌==◌, Bool, true, false, cond, ◌||◌, ◌&&◌, List, [], ◌∷◌, ◌++◌, length, map, reverse, refl, sym, ap, ◌∙◌, true≢false, arith}
 use Rattle.std.specs.Prelude.{Option, None, Some, slice_get}
 use Rattle.std.specs.Option.{unwrap_or}
-use Rattle.std.specs.List.{fold, filter, filter_map, list_any, cons_option}
+use Rattle.std.specs.List.{fold, filter_map, list_any, cons_option}
 use Rattle.std.specs.Str.{bytes_eq}
 use Rattle.std.specs.Cmp.Lexicographic.{bytes_decides}
 use Rattle.std.proofs.lemmas.Bool.Decides.{Decides-eqb}
@@ -14,7 +14,7 @@ use Rattle.ty_base.specs.declared.delta.Delta.{Delta}
 use Rattle.ty_base.specs.declared.entry.Entry.{Entry}
 use Rattle.ty_base.specs.declared.delta.Kind.TheVariants.{Updated}
 use Rattle.ty_base.specs.Statuses.{same_status}
-use Rattle.ty_base.specs.Feed.{Pairs, World, get, start, after, folded, same_world, key_of, firsts, change, changes, changed}
+use Rattle.ty_base.specs.Feed.{Pairs, World, get, start, after, same_world, key_of, firsts, change, changes, changed}
 use Rattle.ty_base.specs.Readings.{last_put}
 use Rattle.ty_base.proofs.Pairs.{IsInOrder, get-put_value, kept_key, firsts_any, changed_all, in_order-after, worlds_decide, same_statuses, itself}
 use Rattle.ty_base.proofs.Reading.{value_is}

@@ -1,12 +1,12 @@
 -- The next crumb stands for the longer book.
-use Rattle.std.proofs.Common.{◌≡◌, ◌≢◌, ℕ, ◌+◌, ◌≤◌, Bool, false, List, [], ◌∷◌, ◌++◌, length, take, refl, sym, ap, subst, ◌∙◌, arith, append-nil, length-append}
-use Rattle.std.specs.List.{fold, range_with_len}
+use Rattle.std.proofs.Common.{◌≡◌, ◌≢◌, ℕ, ◌+◌, ◌≤◌, Bool, false, List, [], ◌∷◌, ◌++◌, length, sym, ap, subst, ◌∙◌, arith, append-nil, length-append}
+use Rattle.std.specs.List.{fold}
 use Rattle.std.proofs.lemmas.List.Sums.{fold_push}
 use Rattle.std.proofs.lemmas.List.{take_all}
 use Rattle.std.proofs.lemmas.List.FromFn.{length-map-range_with_len}
 use Rattle.ty_base.specs.declared.item.Item.{Item}
 use Rattle.ty_base.specs.declared.entry.Entry.{Entry}
-use Rattle.ty_base.specs.Feed.{World, start, after, folded, last, cuts, world, world_at, changed, entry, book, published, replay}
+use Rattle.ty_base.specs.Feed.{World, start, folded, last, cuts, world_at, changed, entry, book, published, replay}
 use Rattle.ty_base.proofs.Replay.{replays}
 use Rattle.ty_crumb.specs.declared.crumb.Crumb.{Crumb}
 use Rattle.ty_crumb.specs.declared.next.Made.{Made}

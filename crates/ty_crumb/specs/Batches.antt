@@ -1,9 +1,9 @@
 -- Batches: where a list of items ends at a closing, and what the next batch behind it is.
-use Rattle.std.specs.Prelude.{◌≡◌, ℕ, ◌+◌, ◌-◌, ◌<◌, ◌≤◌, ◌⊎◌, Bool, true, false, cond, List, [], ◌∷◌, ◌++◌, length, take, Option, None, Some}
+use Rattle.std.specs.Prelude.{◌≡◌, ℕ, ◌+◌, ◌-◌, ◌<◌, ◌≤◌, ◌⊎◌, Bool, true, false, cond, List, [], ◌∷◌, ◌++◌, length, take}
 use Rattle.std.specs.List.{fold, filter_map, count_by, list_all}
 use Rattle.ty_base.specs.declared.item.Item.{Item}
 use Rattle.ty_base.specs.declared.entry.Entry.{Entry}
-use Rattle.ty_base.specs.Feed.{World, after, folded, is_closing, is_update, same_world, changes, firsts, key_of}
+use Rattle.ty_base.specs.Feed.{World, after, is_closing, is_update, same_world, changes, firsts, key_of}
 use Rattle.ty_crumb.specs.Limits.{items_fit}
 
 -- one batch: at most 100 updates, an item that is no update only as the last, and keys and values within the limits

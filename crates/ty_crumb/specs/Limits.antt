@@ -1,5 +1,5 @@
 -- How long keys and values may be, in bytes.
-use Rattle.std.specs.Prelude.{ℕ, Bool, nat_le, ◌&&◌, List, length}
+use Rattle.std.specs.Prelude.{ℕ, Bool, nat_le, List, length}
 use Rattle.std.specs.List.{list_all}
 use Rattle.ty_base.specs.declared.item.Item.{Item}
 use Rattle.ty_base.specs.declared.delta.Delta.{Delta}

@@ -1,5 +1,5 @@
 -- A node's pairs, and what the order of the keys says of its sides.
-use Rattle.std.proofs.Common.{◌≡◌, ◌++◌, ◌∷◌, [], List, ℕ, refl, ap, sym, ◌∙◌, subst}
+use Rattle.std.proofs.Common.{◌≡◌, ◌++◌, ◌∷◌, [], List, refl, ap, sym, subst}
 use Rattle.std.specs.Prelude.{Result, Ok, Err, IfOk}
 use Rattle.ty_base.specs.Feed.{Pairs}
 use Rattle.ty_map.specs.Ascending.{IsAscending}

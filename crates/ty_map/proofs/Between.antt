@@ -7,7 +7,7 @@ use Rattle.std.specs.Cmp.Lexicographic.{bytes_decides}
 use Rattle.std.proofs.lemmas.List.{map-append}
 use Rattle.ty_map.specs.Shape.{Shape, Empty, Fork, pairs}
 use Rattle.ty_map.specs.Fresh.{fresh, is_subtree, AllDiffer, HasNoKeyTwice}
-use Rattle.ty_map.proofs.Shared.{fresh-subtree, fresh_node, subtree_cases, subtree_itself, left_subtree, right_subtree, shapes_same}
+use Rattle.ty_map.proofs.Shared.{fresh_node, subtree_cases, left_subtree, right_subtree, shapes_same}
 
 abbrev one_if : Bool → ℕ
 one_if true = 1

@@ -1,6 +1,6 @@
 -- A balanced tree is low: 2 to its height is at most the square of one more than its pairs; and no lower than it must be:
 -- its pairs are fewer than 2 to its height.
-use Rattle.std.proofs.Common.{◌≡◌, ℕ, ◌+◌, ◌*◌, ◌^◌, ◌≤◌, ◌<◌, List, [], ◌∷◌, ◌++◌, length, max, refl, sym, ap, subst, ◌∙◌, inl, inr, arith, length-append, pow_mono, pow-add}
+use Rattle.std.proofs.Common.{◌≡◌, ℕ, ◌+◌, ◌*◌, ◌^◌, ◌≤◌, ◌∷◌, ◌++◌, length, max, sym, ap, subst, ◌∙◌, inl, inr, arith, length-append, pow_mono, pow-add}
 use Rattle.std.proofs.Math.Nat.{mul_comm, add-mul, pow-suc, pow-zero}
 use Rattle.std.proofs.lemmas.Nat.{mul-le}
 use Rattle.std.proofs.lemmas.Bool.{cases_lt}

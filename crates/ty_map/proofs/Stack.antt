@@ -1,7 +1,7 @@
 -- One tree more on a walk's stack, or one less.
-use Rattle.std.proofs.Common.{◌≡◌, ℕ, ◌+◌, ◌≤◌, List, [], ◌∷◌, ◌++◌, length, map, reverse, sym, ap, ◌∙◌, arith, Bor}
+use Rattle.std.proofs.Common.{◌≡◌, ℕ, ◌≤◌, List, [], ◌∷◌, ◌++◌, length, map, reverse, ap, ◌∙◌, arith, Bor}
 use Rattle.std.proofs.lemmas.List.{reverse-append, map-append, length-reverse, length-map}
-use Rattle.ty_map.specs.Shape.{Shape, height}
+use Rattle.ty_map.specs.Shape.{Shape}
 use Rattle.ty_map.specs.Stack.{stacked, HasRoom}
 
 pub stacked_push : (ts : List (Bor Shape)) (t : Bor Shape) → stacked (ts ++ t ∷ []) ≡ t.now ∷ stacked ts

@@ -1,5 +1,5 @@
 -- What a node of the tree is seen as, and what holds of it.
-use Rattle.std.specs.Prelude.{◌≡◌, ℕ, ◌+◌, max, List, [], ◌∷◌, ◌++◌, length}
+use Rattle.std.specs.Prelude.{◌≡◌, ℕ, ◌+◌, max, List, ◌∷◌, ◌++◌, length}
 use Rattle.ty_map.specs.Ascending.{IsAscending}
 use Rattle.ty_map.specs.Shape.{Shape, Empty, Fork, pairs, height, IsBalanced, DifferByAtMost}
 use Rattle.ty_map.specs.declared.tree.Pair.{Pair}

@@ -5,7 +5,7 @@ use Rattle.serde_json.specs.Data.{Data, null}
 use Rattle.ty_rules.specs.declared.rule.Rule.{Rule}
 use Rattle.ty_rules.specs.declared.rule.Rule.TheVariants as R
 use Rattle.ty_rules.specs.Tests.{Test, given, optional, if_there, all_of}
-use Rattle.ty_rules.specs.Checks.{Check, row, or_later, in_order, if_given}
+use Rattle.ty_rules.specs.Checks.{row, or_later, in_order, if_given}
 use Rattle.ty_values.specs.Nets.{selector}
 use Rattle.ty_values.specs.PolicyRules.{v1_selectors, side_selectors, both_sides}
 

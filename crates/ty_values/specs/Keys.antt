@@ -1,6 +1,6 @@
 -- Which values each key may have.
 --     broken key value    the first rule that the value breaks under the key, if it breaks one
-use Rattle.std.specs.Prelude.{ℕ, Bool, true, false, not, ◌&&◌, ◌==◌, nat_le, length, List, [], ◌∷◌, codes, Option, Some, None, is_none, if◌then◌else◌}
+use Rattle.std.specs.Prelude.{ℕ, Bool, false, not, ◌&&◌, ◌==◌, nat_le, length, List, [], ◌∷◌, codes, Option, Some, None, is_none, if◌then◌else◌}
 use Rattle.serde_json.specs.Written.{has_float, compact_text}
 use Rattle.ty_net.specs.declared.address.Ip.{Ip}
 use Rattle.ty_net.specs.declared.address.Ip.TheVariants.{V4, V6}

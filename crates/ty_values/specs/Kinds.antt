@@ -1,5 +1,5 @@
 -- The rules of a resource's `spec`, kind by kind.
-use Rattle.std.specs.Prelude.{ℕ, max, Bool, is_some, List, [], ◌∷◌, codes, Option, Some, None, option_and_then, if◌then◌else◌}
+use Rattle.std.specs.Prelude.{ℕ, max, List, [], ◌∷◌, codes, Option, option_and_then, if◌then◌else◌}
 use Rattle.serde_json.specs.Data.{Data}
 use Rattle.serde_json.specs.Find.{as_str}
 use Rattle.ty_net.specs.declared.address.Ip.{Ip}

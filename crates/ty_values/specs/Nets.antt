@@ -1,5 +1,5 @@
 -- Addresses, networks, ports and selectors in a value.
-use Rattle.std.specs.Prelude.{ℕ, Bool, true, false, List, [], ◌∷◌, is_some, is_ok}
+use Rattle.std.specs.Prelude.{Bool, true, false, [], ◌∷◌, is_some, is_ok}
 use Rattle.ty_net.specs.declared.address.Ip.{Ip}
 use Rattle.ty_net.specs.declared.address.Ip.TheVariants.{V4, V6}
 use Rattle.ty_net.specs.Addresses.{ip_of}

@@ -1,5 +1,5 @@
 -- The rules of a policy, as keys of version 1 and resources of version 3 write them.
-use Rattle.std.specs.Prelude.{ℕ, List, [], ◌∷◌, codes}
+use Rattle.std.specs.Prelude.{List, [], ◌∷◌, codes}
 use Rattle.ty_rules.specs.declared.rule.Rule.TheVariants as R
 use Rattle.ty_rules.specs.Tests.{Test, object, text_of, optional, required, all_of, any_of, where_also, filled_array}
 use Rattle.ty_rules.specs.Texts.{action, action_or_empty}

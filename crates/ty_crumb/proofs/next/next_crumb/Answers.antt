@@ -1,6 +1,6 @@
-use Rattle.std.proofs.Common.{◌≡◌, ◌++◌, ◌&&◌, ◌∷◌, [], false, refl, ap, sym, subst, ◌∙◌}
+use Rattle.std.proofs.Common.{◌&&◌, false, refl, ap, sym, subst, ◌∙◌}
 use Rattle.std.specs.List.{fold}
-use Rattle.ty_base.specs.Feed.{World, after, book}
+use Rattle.ty_base.specs.Feed.{after, book}
 use Rattle.ty_base.proofs.Pairs.{IsInOrder, in_order-after}
 use Rattle.ty_base.proofs.Passing.{left}
 use Rattle.ty_crumb.specs.Limits.{key_fits, value_fits, pairs_fit, deltas_fit}

@@ -1,8 +1,8 @@
-use Rattle.std.proofs.Common.{◌≡◌, ◌+◌, ℕ, arith, ◌++◌, ◌∷◌, ap, sym, ◌∙◌, subst, refl}
+use Rattle.std.proofs.Common.{◌+◌, ◌++◌, ◌∷◌, ap, sym, ◌∙◌, subst, refl}
 use Rattle.std.specs.Ordering.{nat_cmp}
 use Rattle.std.specs.Cmp.Lexicographic.{slice_cmp}
 use Rattle.ty_map.specs.Ascending.{IsAscending}
-use Rattle.ty_map.specs.Shape.{Shape, Empty, Fork, pairs, height}
+use Rattle.ty_map.specs.Shape.{Fork, pairs}
 use Rattle.ty_map.specs.Nodes.{entry, shape_of}
 use Rattle.ty_map.specs.Fresh.{AtMostFresh}
 use Rattle.ty_map.proofs.Shared.{node_same, turned_once_right, turned_twice_right}

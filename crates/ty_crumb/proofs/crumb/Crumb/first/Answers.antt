@@ -1,7 +1,6 @@
-use Rattle.std.proofs.Common.{[], refl}
+use Rattle.std.proofs.Common.{refl}
 use Rattle.ty_base.specs.declared.status.Status.TheVariants.{Wait}
 use Rattle.ty_base.specs.Feed.{replay}
-use Rattle.ty_crumb.specs.Crumbs.{Stands}
 use Rattle.ty_crumb.proofs.crumb.Crumb.first.Goals as goal
 
 pub returns-clause-stands : goal.returns-clause-stands

@@ -1,10 +1,9 @@
-use Rattle.std.proofs.Common.{◌≡◌, ◌++◌, ◌∷◌, Ordering, Less, Equal, Greater, ap, sym, ◌∙◌, subst}
+use Rattle.std.proofs.Common.{◌≡◌, Less, Equal, Greater, ap, sym, ◌∙◌, subst}
 use Rattle.std.specs.Prelude.{Some}
 use Rattle.std.specs.Ordering.{nat_cmp}
 use Rattle.std.specs.Cmp.Lexicographic.{slice_cmp, nat_list_cmp_total}
 use Rattle.ty_base.specs.Feed.{get}
-use Rattle.ty_map.specs.Ascending.{IsAscending}
-use Rattle.ty_map.specs.Shape.{Shape, Empty, Fork, pairs, height}
+use Rattle.ty_map.specs.Shape.{pairs}
 use Rattle.ty_map.specs.Nodes.{entry, shape_of, IsAvl}
 use Rattle.ty_map.proofs.Order.{find_left, find_right, find_middle}
 use Rattle.ty_map.proofs.tree.Tree.+get.Goals as goal

@@ -1,11 +1,11 @@
-use Rattle.std.proofs.Common.{◌≡◌, ◌+◌, ◌*◌, ℕ, arith, ◌++◌, ◌∷◌, Ordering, Less, Equal, Greater, ap, sym, ◌∙◌, subst, refl}
+use Rattle.std.proofs.Common.{◌≡◌, ◌+◌, ◌*◌, ℕ, arith, ◌++◌, ◌∷◌, Less, Equal, Greater, ap, sym, ◌∙◌, subst, refl}
 use Rattle.std.specs.Prelude.{IfOk}
 use Rattle.std.specs.Ordering.{nat_cmp}
 use Rattle.std.specs.Cmp.Lexicographic.{slice_cmp, nat_list_cmp_total}
 use Rattle.std.specs.FinMap.{slice_cmp-IsAntisymmetric, nat_cmp-IsAntisymmetric}
 use Rattle.ty_base.specs.Feed.{insert}
 use Rattle.ty_map.specs.Ascending.{IsAscending}
-use Rattle.ty_map.specs.Shape.{Shape, Empty, Fork, pairs, height}
+use Rattle.ty_map.specs.Shape.{Empty, Fork, pairs, height}
 use Rattle.ty_map.specs.Nodes.{entry, shape_of, IsAvl}
 use Rattle.ty_map.specs.Fresh.{AtMostFresh}
 use Rattle.ty_map.proofs.Shared.{node_same, made_node, empty_fresh, at_most-more, under_left, under_right, left_shared, right_shared}

@@ -1,11 +1,11 @@
-use Rattle.std.proofs.Common.{◌≡◌, ◌+◌, ◌*◌, arith, ◌++◌, ◌∷◌, [], List, ℕ, Bool, not, Ordering, Less, Equal, Greater, ap, sym, ◌∙◌, subst, refl}
-use Rattle.std.specs.Prelude.{IfOk, IfSome, IfNone}
+use Rattle.std.proofs.Common.{◌≡◌, ◌+◌, ◌*◌, arith, ◌++◌, ◌∷◌, [], List, ℕ, Bool, not, Less, Equal, Greater, ap, sym, ◌∙◌, subst, refl}
+use Rattle.std.specs.Prelude.{IfOk}
 use Rattle.std.specs.Ordering.{nat_cmp}
 use Rattle.std.specs.Str.{bytes_eq}
 use Rattle.std.specs.Cmp.Lexicographic.{slice_cmp, nat_list_cmp_total, texts_ties}
 use Rattle.ty_base.specs.Feed.{remove}
 use Rattle.ty_map.specs.Ascending.{IsAscending}
-use Rattle.ty_map.specs.Shape.{Shape, Empty, Fork, pairs, height}
+use Rattle.ty_map.specs.Shape.{Empty, Fork, pairs, height}
 use Rattle.ty_map.specs.Nodes.{entry, shape_of, IsAvl}
 use Rattle.ty_map.proofs.Around.{joined, sorted_joined, if_ok-map}
 use Rattle.ty_map.proofs.Order.{OnlyFails, remove_left, remove_right, remove_middle, sorted_remove_left, sorted_remove_right, sorted_remove_middle}

@@ -2,7 +2,7 @@ use Rattle.std.proofs.Common.{◌≡◌, ◌+◌, ◌*◌, ℕ, arith, ◌++◌,
 use Rattle.std.specs.Ordering.{nat_cmp}
 use Rattle.std.specs.Cmp.Lexicographic.{slice_cmp}
 use Rattle.ty_map.specs.Ascending.{IsAscending}
-use Rattle.ty_map.specs.Shape.{Shape, Fork, pairs, height}
+use Rattle.ty_map.specs.Shape.{Fork, pairs, height}
 use Rattle.ty_map.specs.Nodes.{entry, shape_of, IsAvl}
 use Rattle.ty_map.specs.Fresh.{AtMostFresh}
 use Rattle.ty_map.proofs.Shared.{at_most-more, under_left, right_shared}

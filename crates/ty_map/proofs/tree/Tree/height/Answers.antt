@@ -1,4 +1,4 @@
-use Rattle.std.proofs.Common.{◌≡◌, ◌+◌, ◌^◌, ◌≤◌, length, ap, sym, subst, ◌∙◌}
+use Rattle.std.proofs.Common.{◌+◌, ◌^◌, ◌≤◌, length, ap, sym, subst, ◌∙◌}
 use Rattle.ty_map.specs.Shape.{pairs, height, IsBalanced}
 use Rattle.ty_map.specs.Nodes.{shape_of}
 use Rattle.ty_map.proofs.Low.{balanced_is_low, balanced_is_no_lower, root_is_balanced}
