@@ -15,7 +15,7 @@ use Rattle.ty_wire.specs.declared.message.Msg.{Msg}
 use Rattle.ty_wire.proofs.Talking.{talk-with-pings}
 use Rattle.ty_client.specs.Rebuilt.{Rebuilt, ats}
 use Rattle.ty_client.specs.Heard.{Hears}
-use Rattle.ty_client.specs.Worlds.{IsRising, IsWorldOf, rebuilt_after, within_limits, IsWorldAt, rebuilt_at}
+use Rattle.ty_client.specs.Worlds.{IsRising, IsWorldOf, numbered, rebuilt_after, AreSmall, IsWorldAt, rebuilt_world}
 use Rattle.ty_client.proofs.Talks.{Rebuilds, within, pings_rebuild, front_rebuilds, whole_rebuilds}
 
 -- ---- a list of positions
@@ -56,11 +56,11 @@ module _ (ended : Bool) (items : List Item) where
   pub book_few : length items < 2 ^ 64 → length (book ended items) < 2 ^ 64
   book_few h = omega (arith, book_length, last_few, h)
 
-  entries_pass : list_all within_limits items ≡ true → (ns : List ℕ) → list_all entry_passes (map (entry ended items) ns) ≡ true
+  entries_pass : AreSmall items → (ns : List ℕ) → list_all entry_passes (map (entry ended items) ns) ≡ true
   entries_pass h [] = refl
   entries_pass h (n ∷ ns) = both (deltas_pass key_passes value_passes ended items n h) (entries_pass h ns)
 
-  pub book_passes : list_all within_limits items ≡ true → list_all entry_passes (book ended items) ≡ true
+  pub book_passes : AreSmall items → list_all entry_passes (book ended items) ≡ true
   unfolding book
   book_passes h = entries_pass h (range_with_len 1 (last ended items))
 
@@ -68,19 +68,15 @@ module _ (ended : Bool) (items : List Item) where
 
   world_is : (a : Rebuilt) → IsWorldOf (book ended items) a → IsWorldAt ended items a
   world_is a h =
-      let known : a.number ≤ last ended items = omega (arith, h.known, book_length) in
-      record {
-        known = known;
-        pairs = h.pairs ∙ ap (λ (w : World). w.pairs) (replays ended items a.number known);
-        status = h.status ∙ ap (λ (w : World). w.status) (replays ended items a.number known);
-      }
+      let known : a.number ≤ last ended items = omega (arith, h.0, book_length) in
+      (known, h.1 ∙ ap (numbered a.number) (replays ended items a.number known))
 
-  same_worlds : (n : ℕ) (ns : List ℕ) → Rise n ns (length (book ended items)) → map (rebuilt_after (book ended items)) (n ∷ ns) ≡ map (rebuilt_at ended items) (n ∷ ns)
+  same_worlds : (n : ℕ) (ns : List ℕ) → Rise n ns (length (book ended items)) → map (rebuilt_after (book ended items)) (n ∷ ns) ≡ map (rebuilt_world ended items) (n ∷ ns)
   same_worlds n [] r =
-      ap (λ (w : World). record { number = n; status = w.status; pairs = w.pairs } ∷ []) (replays ended items n (omega (arith, within n [] (length (book ended items)) r, book_length)))
+      ap (λ (w : World). numbered n w ∷ []) (replays ended items n (omega (arith, within n [] (length (book ended items)) r, book_length)))
   same_worlds n (k ∷ ns) r =
-      ap (λ (w : World). record { number = n; status = w.status; pairs = w.pairs } ∷ map (rebuilt_after (book ended items)) (k ∷ ns)) (replays ended items n (omega (arith, within n (k ∷ ns) (length (book ended items)) r, book_length)))
-      ∙ ap (λ (l : List Rebuilt). rebuilt_at ended items n ∷ l) (same_worlds k ns r.1)
+      ap (λ (w : World). numbered n w ∷ map (rebuilt_after (book ended items)) (k ∷ ns)) (replays ended items n (omega (arith, within n (k ∷ ns) (length (book ended items)) r, book_length)))
+      ∙ ap (λ (l : List Rebuilt). rebuilt_world ended items n ∷ l) (same_worlds k ns r.1)
 
   pub front_at : (e0 : ℕ) (ns bytes more : List ℕ) (all : List Msg) → Rise e0 ns (length (book ended items)) → Rebuilds (book ended items) e0 ns all → AllByRecursion IsWire all → length bytes < 2 ^ 40 → bytes ++ more ≡ frames all
       → (ms : List Msg) × Hears bytes ms None × IsRising (ats ms) × All (λ a. IsWorldAt ended items a) (ats ms)
@@ -89,21 +85,21 @@ module _ (ended : Bool) (items : List Item) where
       (r.0, r.1, r.2, λ k d lt. world_is _ (r.3 k d lt))
 
   pub whole_at : (e0 : ℕ) (ns : List ℕ) (all : List Msg) → Rise e0 ns (length (book ended items)) → Rebuilds (book ended items) e0 ns all → AllByRecursion IsWire all → length (frames all) < 2 ^ 40
-      → Hears (frames all) all None × (ats all ≡ map (rebuilt_at ended items) (e0 ∷ ns))
+      → Hears (frames all) all None × (ats all ≡ map (rebuilt_world ended items) (e0 ∷ ns))
   whole_at e0 ns all rise b w short =
       let r = whole_rebuilds (book ended items) e0 ns all b w short in
       (r.0, r.1 ∙ same_worlds e0 ns rise)
 
   -- ---- with pings
 
-  pub front_with_pings : (e0 : ℕ) (ns bytes more : List ℕ) (all : List Msg) → list_all within_limits items ≡ true → length items < 2 ^ 64 → IsTalk (book ended items) e0 ns all → list_all ping_fits all ≡ true → length bytes < 2 ^ 40 → bytes ++ more ≡ frames all
+  pub front_with_pings : (e0 : ℕ) (ns bytes more : List ℕ) (all : List Msg) → AreSmall items → length items < 2 ^ 64 → IsTalk (book ended items) e0 ns all → list_all ping_fits all ≡ true → length bytes < 2 ^ 40 → bytes ++ more ≡ frames all
       → (ms : List Msg) × Hears bytes ms None × IsRising (ats ms) × All (λ a. IsWorldAt ended items a) (ats ms)
   front_with_pings e0 ns bytes more all p l t q short e =
       let es : List Entry = book ended items in
       front_at e0 ns bytes more all t.rise (pings_rebuild es e0 ns all t) (talk-with-pings es e0 ns all (book_passes p) (book_few l) t q) short e
 
-  pub whole_with_pings : (e0 : ℕ) (ns : List ℕ) (all : List Msg) → list_all within_limits items ≡ true → length items < 2 ^ 64 → IsTalk (book ended items) e0 ns all → list_all ping_fits all ≡ true → length (frames all) < 2 ^ 40
-      → Hears (frames all) all None × (ats all ≡ map (rebuilt_at ended items) (e0 ∷ ns))
+  pub whole_with_pings : (e0 : ℕ) (ns : List ℕ) (all : List Msg) → AreSmall items → length items < 2 ^ 64 → IsTalk (book ended items) e0 ns all → list_all ping_fits all ≡ true → length (frames all) < 2 ^ 40
+      → Hears (frames all) all None × (ats all ≡ map (rebuilt_world ended items) (e0 ∷ ns))
   whole_with_pings e0 ns all p l t q short =
       let es : List Entry = book ended items in
       whole_at e0 ns all t.rise (pings_rebuild es e0 ns all t) (talk-with-pings es e0 ns all (book_passes p) (book_few l) t q) short

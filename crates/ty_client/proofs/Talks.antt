@@ -257,8 +257,8 @@ within n [] most r = r
 within n (k ∷ ns) most r = omega (arith, r.0, within k ns most r.1)
 
 are_worlds : (es : List Entry) (n : ℕ) (ns : List ℕ) → Rise n ns (length es) → AllByRecursion (IsWorldOf es) (map (rebuilt_after es) (n ∷ ns))
-are_worlds es n [] r = (record { known = r; pairs = refl; status = refl }, tt)
-are_worlds es n (k ∷ ns) r = (record { known = within n (k ∷ ns) (length es) r; pairs = refl; status = refl }, are_worlds es k ns r.1)
+are_worlds es n [] r = ((r, refl), tt)
+are_worlds es n (k ∷ ns) r = ((within n (k ∷ ns) (length es) r, refl), are_worlds es k ns r.1)
 
 -- ---- bytes
 

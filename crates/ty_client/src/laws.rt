@@ -12,7 +12,7 @@ ghost use Rattle.ty_wire.specs.declared.message.Msg.TheVariants.{ServerHello};
 ghost use Rattle.ty_client.specs.declared.fault.StreamFault.{StreamFault};
 ghost use Rattle.ty_client.specs.Rebuilt.{Rebuilt, ats};
 ghost use Rattle.ty_client.specs.Heard.{Hears, Holds};
-ghost use Rattle.ty_client.specs.Worlds.{IsRising, IsWorldOf, rebuilt_after, within_limits, IsWorldAt, rebuilt_at};
+ghost use Rattle.ty_client.specs.Worlds.{IsRising, IsWorldOf, rebuilt_after, AreSmall, IsWorldAt, rebuilt_world};
 
 /// Bytes are heard in one way: they have one list of good messages, and one first fault or none. Where they have none,
 /// there are fewer than 2^40 of them. So what a client holds after several connections is one value or none.
@@ -50,12 +50,12 @@ pub fn talks_rebuild_worlds()
 /// crumb end for each of its numbers. The keys and values of the items are UTF-8 and within the limits.
 pub fn talks_over_books_rebuild_the_worlds()
     ensures front { (ended : Bool) (items : List Item) (e0 : ℕ) (numbers bytes more : List ℕ) (all : List Msg)
-        → list_all within_limits items ≡ true → length items < 2 ^ 64
+        → AreSmall items → length items < 2 ^ 64
         → IsTalk (book ended items) e0 numbers all → list_all ping_fits all ≡ true
         → length bytes < 2 ^ 40 → bytes ++ more ≡ frames all
         → (ms : List Msg) × Hears bytes ms None × IsRising (ats ms) × All (λ a. IsWorldAt ended items a) (ats ms) }
     ensures whole { (ended : Bool) (items : List Item) (e0 : ℕ) (numbers : List ℕ) (all : List Msg)
-        → list_all within_limits items ≡ true → length items < 2 ^ 64
+        → AreSmall items → length items < 2 ^ 64
         → IsTalk (book ended items) e0 numbers all → list_all ping_fits all ≡ true → length (frames all) < 2 ^ 40
-        → Hears (frames all) all None × (ats all ≡ map (rebuilt_at ended items) (e0 ∷ numbers)) }
+        → Hears (frames all) all None × (ats all ≡ map (rebuilt_world ended items) (e0 ∷ numbers)) }
 {}

@@ -19,7 +19,7 @@ impl Model for Items {
 }
 
 impl Items {
-    ghost use Rattle.std.specs.Prelude.{◌≡◌, ◌==◌, [], ◌∷◌, ◌++◌, length, OnOk};
+    ghost use Rattle.std.specs.Prelude.{◌≡◌, ◌==◌, [], ◌∷◌, ◌++◌, length, OnOk, OnErr};
 
     /// The empty list.
     pub fn new(alloc: Global) -> Items
@@ -51,9 +51,10 @@ impl Items {
         self.list.is_empty()
     }
 
-    /// Adds one at the end.
+    /// Adds one at the end. Want of memory leaves the list as it was.
     pub fn push(&mut self, item: Item) -> Result<(), NoMemory>
-        ensures { OnOk result (self.new ≡ self.old ++ item ∷ []) }
+        ensures ok { OnOk result (self.new ≡ self.old ++ item ∷ []) }
+        ensures err { OnErr result (self.new ≡ self.old) }
     {
         self.list.push(item)?;
         Ok(())

@@ -1,7 +1,7 @@
 -- What `follow` comes to over what `stream` writes.
-use Rattle.std.proofs.Common.{◌≡◌, ℕ, ◌+◌, ◌-◌, ◌^◌, ◌<◌, ◌≤◌, Bool, true, false, nat_le, List, [], ◌∷◌, ◌++◌, length, map, refl, sym, ap, subst, ◌∙◌, arith, append-nil, length-append}
+use Rattle.std.proofs.Common.{◌≡◌, ℕ, ◌+◌, ◌-◌, ◌^◌, ◌<◌, ◌≤◌, Bool, true, false, nat_le, List, [], ◌∷◌, ◌++◌, length, refl, sym, ap, subst, ◌∙◌, arith, append-nil, length-append}
 use Rattle.std.specs.Prelude.{Option, None, Some, if◌then◌else◌}
-use Rattle.std.specs.List.{list_all, range_with_len}
+use Rattle.std.specs.List.{range_with_len}
 use Rattle.std.specs.Io.KnownBytes.{Appends, Consumes, IsAtEnd}
 use Rattle.std.proofs.lemmas.Bool.{leb-true}
 use Rattle.ty_base.specs.declared.item.Item.{Item}
@@ -22,10 +22,10 @@ use Rattle.ty_client.specs.Rebuilt.{ats}
 use Rattle.ty_client.specs.Heard.{Hears}
 use Rattle.ty_client.specs.Texts.{text_of}
 use Rattle.ty_client.specs.Following.{Seen, Ended, StoppedBy}
-use Rattle.ty_client.specs.Worlds.{within_limits, rebuilt_at}
+use Rattle.ty_client.specs.Worlds.{AreSmall}
 use Rattle.ty_client.proofs.Once.{once, short}
 use Rattle.ty_client.proofs.Books.{book_few, book_passes}
-use Rattle.ty_top.specs.Streamed.{streamed}
+use Rattle.ty_top.specs.Streamed.{streamed, worlds_from}
 use Rattle.ty_top.proofs.Streams.{Rebuilds, RebuildsAll, numbers_rise, stream_rebuilds, all_rebuilt}
 
 -- ---- known bytes that were taken
@@ -46,8 +46,8 @@ all_taken old new all bytes e h n = all_from new all bytes (subst (λ (o : Optio
 
 -- ---- at the end
 
-pub told : (brief : Bool) (items : List Item) (j : ℕ) (old new : Seen) → list_all within_limits items ≡ true → length items < 2 ^ 64 → j ≤ last true items → old.left ≡ Some (streamed items j) → Ended brief old new []
-    → Appends old.held new.held (text_of brief (map (rebuilt_at true items) (j ∷ range_with_len (j + 1) (last true items - j))))
+pub told : (brief : Bool) (items : List Item) (j : ℕ) (old new : Seen) → AreSmall items → length items < 2 ^ 64 → j ≤ last true items → old.left ≡ Some (streamed items j) → Ended brief old new []
+    → Appends old.held new.held (text_of brief (worlds_from items j))
 told brief items j old new p l h e x =
     let bytes_are : x.followed.bytes ≡ streamed items j = all_taken old.left new.left (streamed items j) x.followed.bytes e x.followed.taken x.ended in
     let heard : Hears (streamed items j) x.followed.ms None = subst (λ (b : List ℕ). Hears b x.followed.ms None) bytes_are x.followed.hears in
@@ -60,7 +60,7 @@ told brief items j old new p l h e x =
 not_some : (f : StreamFault) → Some f ≡ None → ⊥
 not_some f e = cc
 
-pub good : (brief : Bool) (items : List Item) (j : ℕ) (old new : Seen) (f : StreamFault) → list_all within_limits items ≡ true → length items < 2 ^ 64 → length (streamed items j) < 2 ^ 40 → old.left ≡ Some (streamed items j) → StoppedBy brief old new (Stream f) → ⊥
+pub good : (brief : Bool) (items : List Item) (j : ℕ) (old new : Seen) (f : StreamFault) → AreSmall items → length items < 2 ^ 64 → length (streamed items j) < 2 ^ 40 → old.left ≡ Some (streamed items j) → StoppedBy brief old new (Stream f) → ⊥
 good brief items j old new f p l brief_enough e x =
     let t = front_taken old.left new.left (streamed items j) x.bytes e x.taken in
     let few : length x.bytes < 2 ^ 40 = omega (arith, brief_enough, ap length t.1, length-append x.bytes t.0) in
@@ -70,7 +70,7 @@ good brief items j old new f p l brief_enough e x =
 Whole : List ℕ → Type 0
 Whole bytes = (ms : List Msg) × Reads bytes ms []
 
-stream_reads : (items : List Item) (j : ℕ) → list_all within_limits items ≡ true → length items < 2 ^ 64 → Whole (streamed items j)
+stream_reads : (items : List Item) (j : ℕ) → AreSmall items → length items < 2 ^ 64 → Whole (streamed items j)
 unfolding streamed Whole
 stream_reads items j p l =
     let n : ℕ = last true items in
@@ -81,7 +81,7 @@ stream_reads items j p l =
       | false ↦ λ t. (hello, subst (λ (b : List ℕ). Reads b hello []) (append-nil (frame (ServerHello 1))) (reads-whole hello (is_wire (ServerHello 1) tt (server_hello-fits 1 (omega arith)), tt)))
     ] refl
 
-pub uncut : (brief : Bool) (items : List Item) (j : ℕ) (old new : Seen) (left : ℕ) → list_all within_limits items ≡ true → length items < 2 ^ 64 → old.left ≡ Some (streamed items j) → StoppedBy brief old new (Cut left) → ⊥
+pub uncut : (brief : Bool) (items : List Item) (j : ℕ) (old new : Seen) (left : ℕ) → AreSmall items → length items < 2 ^ 64 → old.left ≡ Some (streamed items j) → StoppedBy brief old new (Cut left) → ⊥
 unfolding Whole
 uncut brief items j old new left p l e (rest, x, some, len) =
     let bytes_are : x.followed.bytes ≡ streamed items j = all_taken old.left new.left (streamed items j) x.followed.bytes e x.followed.taken x.ended in

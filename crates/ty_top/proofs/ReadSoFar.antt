@@ -5,7 +5,7 @@ use Rattle.std.specs.Option.{option_or}
 use Rattle.std.specs.List.{list_all}
 use Rattle.std.proofs.lemmas.List.Folds.{list_all-append}
 use Rattle.ty_base.proofs.Passing.{both, left, right}
-use Rattle.ty_client.specs.Worlds.{within_limits}
+use Rattle.ty_client.specs.Worlds.{is_small, AreSmall}
 use Rattle.std.proofs.lemmas.Grind.{flat_map-append}
 use Rattle.std.specs.Io.KnownBytes.{Appends, Consumes, IsAtEnd}
 use Rattle.ty_base.specs.Causes.{Rose}
@@ -25,7 +25,7 @@ use Rattle.ty_intake.specs.Batches.{items_of, is_whole, batches_of, batch_fits, 
 use Rattle.ty_intake.specs.Standing.{Held, Stands as IntakeStands}
 use Rattle.ty_intake.proofs.Joining.{joined-of, few-of, whole-of, none-of}
 use Rattle.ty_top.specs.Streamed.{streamed}
-use Rattle.ty_top.specs.Endings.{AreSmall, Taken, stated, Streams}
+use Rattle.ty_top.specs.Endings.{Taken, stated, Streams}
 use Rattle.ty_top.specs.Publishing.{joined, Gave, CrumbOf, Owed, IsPublished, IsFedPublished, IsReadTo, Stated, StatedPart, IsPieceRead, IsEndRead}
 use Rattle.ty_top.specs.declared.ending.Ending.{Ending}
 use Rattle.ty_top.specs.declared.ending.Ending.TheVariants.{Done, Usage, Feed, Read, Write, Memory, Fault, Cut}
@@ -51,7 +51,7 @@ owed_of c feed now closed k h fits = record {
 joined_small : (bs : List Closed) → list_all batch_fits bs ≡ true → AreSmall (joined bs)
 joined_small [] h = refl
 joined_small (b ∷ bs) h =
-    list_all-append within_limits b.items (joined bs)
+    list_all-append is_small b.items (joined bs)
     ∙ both (left (batch_fits b) (list_all batch_fits bs) h) (joined_small bs (right (batch_fits b) (list_all batch_fits bs) h))
 
 module _ (j : ℕ) (feed now : FeedSoFar) (closed : List Closed) (h : batches_of now ≡ batches_of feed ++ closed) where
@@ -63,8 +63,8 @@ module _ (j : ℕ) (feed now : FeedSoFar) (closed : List Closed) (h : batches_of
 
   still_small : list_all batch_fits closed ≡ true → AreSmall (closed_items feed) → AreSmall (closed_items now)
   still_small fits s =
-      ap (list_all within_limits) (sym after_is ∙ flat_map-append (λ b. b.items) (batches_of feed) closed ∙ ap (λ l. l ++ joined closed) (joined-of feed))
-      ∙ list_all-append within_limits (closed_items feed) (joined closed)
+      ap (list_all is_small) (sym after_is ∙ flat_map-append (λ b. b.items) (batches_of feed) closed ∙ ap (λ l. l ++ joined closed) (joined-of feed))
+      ∙ list_all-append is_small (closed_items feed) (joined closed)
       ∙ both s (joined_small closed fits)
 
   module _ (fits : list_all batch_fits closed ≡ true) (d : Crumb) (x y : Option (List ℕ)) (n m : ℕ) where
@@ -160,7 +160,7 @@ reading_begins j intake crumb l h h' c s k w = record {
   consumed = c;
   read_to = record { stands = s; crumb_of = subst (CrumbOf crumb) (sym none_closed) k };
   written = subst (λ (x : List ℕ). Appends h h' x) (ap (λ l. streamed l j) (sym none_closed)) w;
-  small = ap (list_all within_limits) none_closed;
+  small = ap (list_all is_small) none_closed;
 }
 
 fed_open : (feed : FeedSoFar) (piece : List ℕ) → feed.ended ≡ false → fed_with feed piece ≡ record feed { bytes = feed.bytes ++ piece }

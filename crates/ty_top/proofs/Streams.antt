@@ -1,7 +1,7 @@
 -- What `stream` writes is a talk over the book of its items, and the entries of a book leave the worlds.
-use Rattle.std.proofs.Common.{◌≡◌, ℕ, zero, suc, ◌+◌, ◌-◌, ◌^◌, ◌<◌, ◌≤◌, Bool, true, false, cond, ◌&&◌, ◌||◌, ◌==◌, ◌%◌, nat_le, List, [], ◌∷◌, ◌++◌, length, take, map, get_or, refl, sym, ap, subst, ◌∙◌, arith, inl, inr, eq-or-lt_of_le, eq-eqb, le-leb}
+use Rattle.std.proofs.Common.{◌≡◌, ℕ, zero, suc, ◌+◌, ◌-◌, ◌^◌, ◌<◌, ◌≤◌, Bool, true, false, cond, ◌&&◌, ◌||◌, ◌==◌, ◌%◌, nat_le, List, [], ◌∷◌, ◌++◌, length, take, get_or, refl, sym, ap, subst, ◌∙◌, arith, inl, inr, eq-or-lt_of_le, eq-eqb, le-leb}
 use Rattle.std.specs.Prelude.{None, if◌then◌else◌}
-use Rattle.std.specs.List.{All, list_all, filter, range_with_len, suffix_len}
+use Rattle.std.specs.List.{All, filter, range_with_len, suffix_len}
 use Rattle.std.proofs.lemmas.Bool.{leb-true}
 use Rattle.std.proofs.lemmas.List.Elements.{All-from_recursion}
 use Rattle.std.proofs.lemmas.List.{take_all}
@@ -17,10 +17,10 @@ use Rattle.ty_wire.specs.declared.message.Msg.TheVariants.{ServerHello}
 use Rattle.ty_wire.proofs.Talking.{talk-wire}
 use Rattle.ty_client.specs.Rebuilt.{ats}
 use Rattle.ty_client.specs.Heard.{Hears}
-use Rattle.ty_client.specs.Worlds.{IsRising, within_limits, IsWorldAt, rebuilt_at}
+use Rattle.ty_client.specs.Worlds.{IsRising, AreSmall, IsWorldAt}
 use Rattle.ty_client.proofs.Talks.{talk_rebuilds, hello_heard}
 use Rattle.ty_client.proofs.Books.{book_length, book_few, book_passes, front_at, whole_at}
-use Rattle.ty_top.specs.Streamed.{streamed}
+use Rattle.ty_top.specs.Streamed.{streamed, worlds_from}
 
 all_rise : (k j most : ℕ) → j + k ≤ most → Rise j (range_with_len (j + 1) k) most
 all_rise zero j most h = omega (arith, h)
@@ -34,7 +34,7 @@ numbers_rise items j h = all_rise (last true items - j) j (length (book true ite
 abbrev pub Rebuilds : List Item → List ℕ → Type 0
 Rebuilds items bytes = (ms : List Msg) × Hears bytes ms None × IsRising (ats ms) × All (λ a. IsWorldAt true items a) (ats ms)
 
-from_talk : (items : List Item) (j : ℕ) (bytes more : List ℕ) → list_all within_limits items ≡ true → length items < 2 ^ 64 → length bytes < 2 ^ 40 → j ≤ last true items
+from_talk : (items : List Item) (j : ℕ) (bytes more : List ℕ) → AreSmall items → length items < 2 ^ 64 → length bytes < 2 ^ 40 → j ≤ last true items
     → bytes ++ more ≡ frames (talk (book true items) j (range_with_len (j + 1) (last true items - j))) → Rebuilds items bytes
 from_talk items j bytes more p l short h e =
     let es : List Entry = book true items in
@@ -47,7 +47,7 @@ from_hello items bytes more short e =
     let r = hello_heard bytes more short e in
     (r.0, r.1, subst IsRising (sym r.2) tt, subst (All (λ a. IsWorldAt true items a)) (sym r.2) (All-from_recursion (IsWorldAt true items) [] tt))
 
-pub stream_rebuilds : (items : List Item) (j : ℕ) (bytes more : List ℕ) → list_all within_limits items ≡ true → length items < 2 ^ 64 → length bytes < 2 ^ 40 → bytes ++ more ≡ streamed items j → Rebuilds items bytes
+pub stream_rebuilds : (items : List Item) (j : ℕ) (bytes more : List ℕ) → AreSmall items → length items < 2 ^ 64 → length bytes < 2 ^ 40 → bytes ++ more ≡ streamed items j → Rebuilds items bytes
 unfolding streamed
 stream_rebuilds items j bytes more p l short e =
     let n : ℕ = last true items in
@@ -59,9 +59,9 @@ stream_rebuilds items j bytes more p l short e =
 -- ---- the whole
 
 abbrev pub RebuildsAll : List Item → ℕ → List ℕ → Type 0
-RebuildsAll items j bytes = (ms : List Msg) × Hears bytes ms None × (ats ms ≡ map (rebuilt_at true items) (j ∷ range_with_len (j + 1) (last true items - j)))
+RebuildsAll items j bytes = (ms : List Msg) × Hears bytes ms None × (ats ms ≡ worlds_from items j)
 
-whole_talk : (items : List Item) (j : ℕ) → list_all within_limits items ≡ true → length items < 2 ^ 64 → j ≤ last true items
+whole_talk : (items : List Item) (j : ℕ) → AreSmall items → length items < 2 ^ 64 → j ≤ last true items
     → (bytes : List ℕ) → frames (talk (book true items) j (range_with_len (j + 1) (last true items - j))) ≡ bytes → length bytes < 2 ^ 40 → RebuildsAll items j bytes
 whole_talk items j p l h bytes e short =
     let es : List Entry = book true items in
@@ -71,7 +71,7 @@ whole_talk items j p l h bytes e short =
     let r = whole_at true items j ns (talk es j ns) rise (talk_rebuilds es j ns rise) (talk-wire es j ns (book_passes true items p) (book_few true items l) rise) brief in
     (talk es j ns, subst (λ (x : List ℕ). Hears x (talk es j ns) None) e r.0, r.1)
 
-pub all_rebuilt : (items : List Item) (j : ℕ) → list_all within_limits items ≡ true → length items < 2 ^ 64 → j ≤ last true items → length (streamed items j) < 2 ^ 40 → RebuildsAll items j (streamed items j)
+pub all_rebuilt : (items : List Item) (j : ℕ) → AreSmall items → length items < 2 ^ 64 → j ≤ last true items → length (streamed items j) < 2 ^ 40 → RebuildsAll items j (streamed items j)
 unfolding streamed
 all_rebuilt items j p l h short =
     let bytes : List ℕ = frames (talk (book true items) j (range_with_len (j + 1) (last true items - j))) in

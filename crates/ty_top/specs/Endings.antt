@@ -1,6 +1,5 @@
 -- How the top call ends: what it read and wrote, its status and its note.
 use Rattle.std.specs.Prelude.{◌≡◌, ℕ, Bool, true, false, List, [], Option, None, Some}
-use Rattle.std.specs.List.{list_all}
 use Rattle.std.specs.Io.KnownBytes.{Appends, Consumes, IsAtEnd}
 use Rattle.ty_base.specs.Causes.{Rose}
 use Rattle.ty_base.specs.Fronts.{AppendsFront}
@@ -10,8 +9,7 @@ use Rattle.ty_intake.specs.Batches.{items_of, closed_items}
 use Rattle.ty_intake.specs.declared.intake.IntakeFault.{IntakeFault}
 use Rattle.ty_intake.specs.declared.intake.IntakeFault.TheVariants as feed
 use Rattle.ty_wire.specs.declared.splitting.WireFault.TheVariants as wire
-use Rattle.ty_base.specs.declared.item.Item.{Item}
-use Rattle.ty_client.specs.Worlds.{within_limits}
+use Rattle.ty_client.specs.Worlds.{AreSmall}
 use Rattle.ty_client.specs.Following.{Seen, Ended, StoppedBy}
 use Rattle.ty_client.specs.declared.fault.StreamFault.{StreamFault}
 use Rattle.ty_client.specs.declared.fault.StreamFault.TheVariants as stream
@@ -36,10 +34,6 @@ pub record Taken (old new : Seen) (read : FeedSoFar) : Type 0 where
 -- what is written for a feed from breadcrumb j on: the talk over the items up to the last closing
 abbrev pub stated : ℕ → FeedSoFar → List ℕ
 stated j read = streamed (closed_items read) j
-
--- the items' keys have at most 1,024 bytes and their values at most 1,048,576, all UTF-8 (RFC 3629)
-abbrev pub AreSmall : List Item → Type 0
-AreSmall items = list_all within_limits items ≡ true
 
 -- the cause of each ending of `stream` from breadcrumb j on, and what was read and written
 abbrev pub Streams : ℕ → Ending → Seen → Seen → Type 0

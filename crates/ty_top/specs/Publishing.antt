@@ -18,7 +18,8 @@ use Rattle.ty_intake.specs.Faults.{fault_of}
 use Rattle.ty_intake.specs.Batches.{batches, batch_fits, closed_items}
 use Rattle.ty_intake.specs.Standing.{Held, Stands as IntakeStands}
 use Rattle.ty_top.specs.Streamed.{streamed}
-use Rattle.ty_top.specs.Endings.{AreSmall, stated}
+use Rattle.ty_client.specs.Worlds.{AreSmall}
+use Rattle.ty_top.specs.Endings.{stated}
 use Rattle.ty_top.specs.declared.ending.Ending.{Ending}
 use Rattle.ty_top.specs.declared.ending.Ending.TheVariants.{Done, Usage, Feed, Read, Write, Memory, Fault, Cut}
 use Rattle.ty_top.specs.declared.publishing.Unwritten.{Unwritten}

@@ -61,75 +61,39 @@ fn connections_are_followed(rt: HostRuntime) -> Result<(), Fail> {
     Ok(())
 }
 
+// Whether a client that follows the frames of these bodies writes this text, and then finds the fault of this note.
+fn finds(alloc: Global, bodies: &[&str], text: &str, note: &str) -> Result<bool, NoMemory> {
+    let bytes = framed(alloc, bodies)?;
+    follows(alloc, &["follow"], &bytes, 6, text, note)
+}
+
+const OTHER_HELLO: &str = "{\"m\":\"server_hello\",\"version\":2}";
+
 #[test]
 fn faults_of_a_connection_have_their_notes(rt: HostRuntime) -> Result<(), Fail> {
     let alloc = rt.alloc();
-    let long = &[0, 128, 0, 1];
+    let again = "typha: frame 4: crumb 3 after 3\n";
+    let long = "typha: frame 1: too long 8388609\n";
     assert!(rt;
-        follows(
+        finds(
             alloc,
-            &["follow"],
-            long,
-            6,
-            "",
-            "typha: frame 1: too long 8388609\n"
-        )?
-    );
-    let again = framed(alloc, &[HELLO, RESYNC, CRUMB_3, CRUMB_3])?;
-    assert!(rt;
-        follows(
-            alloc,
-            &["follow"],
-            &again,
-            6,
+            &[HELLO, RESYNC, CRUMB_3, CRUMB_3],
             "at 3 resync 0\n",
-            "typha: frame 4: crumb 3 after 3\n"
+            again
         )?
     );
-    let early = framed(alloc, &[HELLO, CRUMB_3])?;
     assert!(rt;
-        follows(
+        finds(
             alloc,
-            &["follow"],
-            &early,
-            6,
+            &[HELLO, CRUMB_3],
             "",
             "typha: frame 2: out of order\n"
         )?
     );
-    let other = framed(alloc, &["{\"m\":\"server_hello\",\"version\":2}"])?;
-    assert!(rt;
-        follows(
-            alloc,
-            &["follow"],
-            &other,
-            6,
-            "",
-            "typha: frame 1: version 2\n"
-        )?
-    );
-    let junk = framed(alloc, &[HELLO, "oops"])?;
-    assert!(rt;
-        follows(
-            alloc,
-            &["follow"],
-            &junk,
-            6,
-            "",
-            "typha: frame 2: not JSON\n"
-        )?
-    );
-    let shape = framed(alloc, &["{}"])?;
-    assert!(rt;
-        follows(
-            alloc,
-            &["follow"],
-            &shape,
-            6,
-            "",
-            "typha: frame 1: not a message\n"
-        )?
-    );
+    assert!(rt; finds(alloc, &[OTHER_HELLO], "", "typha: frame 1: version 2\n")?);
+    assert!(rt; finds(alloc, &[HELLO, "oops"], "", "typha: frame 2: not JSON\n")?);
+    assert!(rt; finds(alloc, &["{}"], "", "typha: frame 1: not a message\n")?);
+    assert!(rt; follows(alloc, &["follow"], &[0, 128, 0, 1], 6, "", long)?);
     Ok(())
 }
 

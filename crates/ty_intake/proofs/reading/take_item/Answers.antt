@@ -7,7 +7,7 @@ use Rattle.ty_intake.proofs.reading.take_item.Goals as goal
 pub returns-in_ok-close-clause-follows : goal.returns-in_ok-close-clause-follows
 returns-in_ok-close-clause-follows c =
     let old : Reading = c.args.reading.now in
-    let pushed : c.push.new.self ≡ old.pending ++ c.args.item ∷ [] = c.in_ok-push.ensures in
+    let pushed : c.push.new.self ≡ old.pending ++ c.args.item ∷ [] = c.in_ok-push.ensures.ok in
     item-closes old c.close.new.reading c.args.item c.requires.sound.few (sym c.closes_batch-closes.ensures ∙ c.if-closes.true)
     (c.in_ok-close.ensures.cut ∙ ap (λ (xs : List Item). old.cut + length xs) pushed)
     c.in_ok-close.ensures.pending
@@ -17,4 +17,4 @@ pub returns-else-closes-clause-follows : goal.returns-else-closes-clause-follows
 returns-else-closes-clause-follows c =
     let old : Reading = c.args.reading.now in
     item-stays old (record { lines = old.lines + 1; pending = c.push.new.self; cut = old.cut; closed = old.closed }) c.args.item c.requires.sound.few
-    (sym c.closes_batch-closes.ensures ∙ c.if-closes.false) refl c.in_ok-push.ensures refl
+    (sym c.closes_batch-closes.ensures ∙ c.if-closes.false) refl c.in_ok-push.ensures.ok refl
