@@ -17,6 +17,7 @@ use Rattle.ty_base.specs.Statuses.{same_status}
 use Rattle.ty_base.specs.declared.delta.Kind.TheVariants.{New, Updated, Deleted}
 use Rattle.ty_base.specs.declared.delta.Delta.{Delta}
 use Rattle.ty_base.specs.declared.entry.Entry.{Entry}
+use Rattle.ty_base.specs.declared.limits.TheConstants.{BATCH_UPDATES}
 
 -- pairs of a key and a value, in the order of the keys
 abbrev pub Pairs : Type 0
@@ -57,7 +58,7 @@ is_update Mark = false
 
 -- position p is a closing where item p is no update, or is the 100th, 200th .. update in a row. Where the feed has ended, its end is one too
 abbrev pub is_closing : Bool → List Item → ℕ → Bool
-is_closing ended items p = (suffix_len is_update (take p items) % 100 == 0) || (ended && (p == length items))
+is_closing ended items p = (suffix_len is_update (take p items) % BATCH_UPDATES == 0) || (ended && (p == length items))
 
 unfoldable pub closings : Bool → List Item → List ℕ
 closings ended items = filter (is_closing ended items) (range_with_len 1 (length items))

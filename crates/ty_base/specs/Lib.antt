@@ -1,7 +1,9 @@
 pub mod Causes
+pub mod Drops
 pub mod Feed
 pub mod Fronts
 pub mod Kinds
+pub mod Limits
 pub mod Memory
 pub mod Numbers
 pub mod Passing

@@ -5,14 +5,9 @@ ghost use Rattle.ty_base.specs.Causes.{HasCause, Rose};
 ghost use Rattle.ty_base.specs.Fronts.{AppendsFront, ConsumesFewer};
 ghost use Rattle.ty_base.specs.declared.flow.ReadFault.TheVariants.{Memory};
 
+use crate::limits::{INPUT_BYTES, PIECE_BYTES};
 use crate::outside::{Failed, Sink, Source};
 use std::alloc::{AllocError, Global};
-
-/// The number of the byte that is too much: fewer are read.
-pub const LIMIT: usize = 1 << 40;
-
-/// The most bytes of one take or give.
-pub const PIECE: usize = 65_536;
 
 /// Why a source isn't read to its end.
 #[derive(Clone, Copy, Debug, PartialEq, Eq)]
@@ -21,7 +16,7 @@ pub enum ReadFault {
     Memory,
     /// The source failed.
     Failed,
-    /// Byte number 2^40 was taken.
+    /// Byte number `INPUT_BYTES` was taken.
     TooMuch,
 }
 
@@ -33,23 +28,23 @@ impl From<AllocError> for ReadFault {
     }
 }
 
-/// Reads a source to its end, at most 65,536 bytes at a time.
+/// Reads a source to its end, at most `PIECE_BYTES` at a time.
 pub fn read_all<S: Source>(alloc: Global, source: &mut S) -> Result<Vec<u8>, ReadFault>
     ensures all { IfOk result (λ bytes. Consumes (S.left source.old) (S.left source.new) bytes.items
         × IsAtEnd (S.left source.new)) }
-    ensures short { IfOk result (λ bytes. length bytes.items < 2 ^ 40) }
+    ensures short { IfOk result (λ bytes. length bytes.items < INPUT_BYTES) }
     ensures read { IsErrOf result ReadFault.Failed
         → Rose (S.count source.old) (S.count source.new) }
-    ensures read_few { IsErrOf result ReadFault.Failed → ConsumesFewer (S.left source.old) (S.left source.new) (2 ^ 40) }
+    ensures read_few { IsErrOf result ReadFault.Failed → ConsumesFewer (S.left source.old) (S.left source.new) INPUT_BYTES }
     ensures too_much { IsErrOf result ReadFault.TooMuch
-        → (bytes : List ℕ) × Consumes (S.left source.old) (S.left source.new) bytes × (length bytes ≡ 2 ^ 40) }
+        → (bytes : List ℕ) × Consumes (S.left source.old) (S.left source.new) bytes × (length bytes ≡ INPUT_BYTES) }
     ensures later { S.count source.old ≤ S.count source.new }
 {
     let mut all = Vec::new(alloc);
     let mut piece = Vec::new(alloc);
-    piece.resize(PIECE, 0u8)?;
-    while all.len() < LIMIT {
-        let room = PIECE.min(LIMIT - all.len());
+    piece.resize(PIECE_BYTES, 0u8)?;
+    while all.len() < INPUT_BYTES {
+        let room = PIECE_BYTES.min(INPUT_BYTES - all.len());
         if read_piece(source, &mut piece[..room], &mut all)? == 0 {
             return Ok(all);
         }
@@ -89,7 +84,7 @@ pub fn give_all<K: Sink>(sink: &mut K, bytes: &[u8]) -> Result<(), Failed>
 {
     let mut at = 0;
     while at < bytes.len() {
-        let end = bytes.len().min(at + PIECE);
+        let end = bytes.len().min(at + PIECE_BYTES);
         let Ok(count) = sink.give(&bytes[at..end]) else {
             return Err(Failed);
         };

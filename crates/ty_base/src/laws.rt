@@ -2,6 +2,7 @@
 ghost use Rattle.std.specs.Prelude.{◌≡◌, ◌++◌, ◌+◌, ◌-◌, ◌<◌, ◌≤◌, ◌==◌, ◌||◌, ◌^◌, ℕ, Bool, false, not, List, length, slice_index_or, take, decimal, Some, true, ◌&&◌};
 ghost use Rattle.ty_base.specs.declared.item.Item.{Item};
 ghost use Rattle.ty_base.specs.Feed.{replay, book, world, last, cut, deltas, folded, cuts, is_closing, is_update, closing_before, get};
+ghost use Rattle.ty_base.specs.declared.limits.TheConstants.{BATCH_UPDATES};
 ghost use Rattle.ty_base.specs.Readings.{last_put, last_state, AllNext};
 ghost use Rattle.ty_base.specs.Numbers.{read_number};
 ghost use Rattle.ty_base.specs.Passing.{item_passes, pair_passes, delta_passes};
@@ -33,7 +34,7 @@ pub fn readings()
     ensures status { (items : List Item) → (folded items).status ≡ last_state items }
     ensures closings { (ended : Bool) (items : List Item) (j : ℕ) (x : Item) → j < length items → x ≡ slice_index_or items j x
         → is_closing ended items (j + 1) ≡ (not (is_update x)
-        || (j + 1 - closing_before false items (j + 1) == 100) || (ended && (j + 1 == length items))) }
+        || (j + 1 - closing_before false items (j + 1) == BATCH_UPDATES) || (ended && (j + 1 == length items))) }
     ensures cuts { (ended : Bool) (items : List Item) → AllNext ended items 0 (cuts ended items) }
 {}
 

@@ -6,6 +6,7 @@ mod entry;
 mod flow;
 mod item;
 mod laws;
+mod limits;
 mod memory;
 mod number;
 mod outside;
@@ -16,11 +17,16 @@ mod text;
 
 pub use delta::{Delta, Deltas, Kind};
 pub use entry::Entry;
-pub use flow::{LIMIT, PIECE, ReadFault, give_all, read_all};
+pub use flow::{ReadFault, give_all, read_all};
 pub use item::Item;
 pub use laws::{
     growth_changes_nothing_earlier, keys_and_values_are_the_items_own, numbers_read_back, readings,
     replay_gives_the_worlds,
+};
+pub use limits::{
+    BATCH_UPDATES, BODY_BYTES, GRACE, GREATEST_LAG, GROUP_AGE, HELLO_TIMEOUT, HOST_BYTES,
+    INPUT_BYTES, KEY_BYTES, LINE_BYTES, LOOK_INTERVAL, MESSAGE_DELTAS, PIECE_BYTES, PING_INTERVAL,
+    PONG_TIMEOUT, VALUE_BYTES,
 };
 pub use memory::{MemSink, MemSource};
 pub use number::{print_u64, read_u64};
