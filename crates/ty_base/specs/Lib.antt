@@ -1,4 +1,5 @@
 pub mod Causes
+pub mod Devices
 pub mod Drops
 pub mod Feed
 pub mod Fronts

@@ -30,15 +30,15 @@ impl From<AllocError> for ReadFault {
 
 /// Reads a source to its end, at most `PIECE_BYTES` at a time.
 pub fn read_all<S: Source>(alloc: Global, source: &mut S) -> Result<Vec<u8>, ReadFault>
-    ensures all { IfOk result (λ bytes. Consumes (S.left source.old) (S.left source.new) bytes.items
-        × IsAtEnd (S.left source.new)) }
+    ensures all { IfOk result (λ bytes. Consumes (S.seen source.old).left (S.seen source.new).left bytes.items
+        × IsAtEnd (S.seen source.new).left) }
     ensures short { IfOk result (λ bytes. length bytes.items < INPUT_BYTES) }
     ensures read { IsErrOf result ReadFault.Failed
-        → Rose (S.count source.old) (S.count source.new) }
-    ensures read_few { IsErrOf result ReadFault.Failed → ConsumesFewer (S.left source.old) (S.left source.new) INPUT_BYTES }
+        → Rose (S.seen source.old).faults (S.seen source.new).faults }
+    ensures read_few { IsErrOf result ReadFault.Failed → ConsumesFewer (S.seen source.old).left (S.seen source.new).left INPUT_BYTES }
     ensures too_much { IsErrOf result ReadFault.TooMuch
-        → (bytes : List ℕ) × Consumes (S.left source.old) (S.left source.new) bytes × (length bytes ≡ INPUT_BYTES) }
-    ensures later { S.count source.old ≤ S.count source.new }
+        → (bytes : List ℕ) × Consumes (S.seen source.old).left (S.seen source.new).left bytes × (length bytes ≡ INPUT_BYTES) }
+    ensures later { (S.seen source.old).faults ≤ (S.seen source.new).faults }
 {
     let mut all = Vec::new(alloc);
     let mut piece = Vec::new(alloc);
@@ -61,13 +61,13 @@ fn read_piece<S: Source>(
     requires { 0 < length piece.old }
     ensures count { IfOk result (λ n. n ≤ length piece.old) }
     ensures items { IfOk result (λ n. all.new.items ≡ all.old.items ++ take n piece.new) }
-    ensures taken { IfOk result (λ n. Consumes (S.left source.old) (S.left source.new) (take n piece.new)) }
-    ensures ended { IfOk result (λ n. n ≡ 0 → IsAtEnd (S.left source.new)) }
+    ensures taken { IfOk result (λ n. Consumes (S.seen source.old).left (S.seen source.new).left (take n piece.new)) }
+    ensures ended { IfOk result (λ n. n ≡ 0 → IsAtEnd (S.seen source.new).left) }
     ensures read { IsErrOf result ReadFault.Failed
-        → Rose (S.count source.old) (S.count source.new) }
-    ensures kept { IsErrOf result ReadFault.Failed → Keeps (S.left source.old) (S.left source.new) }
+        → Rose (S.seen source.old).faults (S.seen source.new).faults }
+    ensures kept { IsErrOf result ReadFault.Failed → Keeps (S.seen source.old).left (S.seen source.new).left }
     ensures too_much { result ≢ Err ReadFault.TooMuch }
-    ensures later { S.count source.old ≤ S.count source.new }
+    ensures later { (S.seen source.old).faults ≤ (S.seen source.new).faults }
 {
     let Ok(count) = source.take(piece) else {
         return Err(ReadFault::Failed);
@@ -78,9 +78,9 @@ fn read_piece<S: Source>(
 
 /// Gives all the bytes, at most 65,536 at a time. After a fault a front of them was given.
 pub fn give_all<K: Sink>(sink: &mut K, bytes: &[u8]) -> Result<(), Failed>
-    ensures ok { OnOk result (Appends (K.held sink.old) (K.held sink.new) bytes.now) }
-    ensures err { OnErr result (AppendsFront (K.held sink.old) (K.held sink.new) bytes.now) }
-    ensures cause { HasCause (K.count sink.old) (K.count sink.new) result }
+    ensures ok { OnOk result (Appends (K.seen sink.old).held (K.seen sink.new).held bytes.now) }
+    ensures err { OnErr result (AppendsFront (K.seen sink.old).held (K.seen sink.new).held bytes.now) }
+    ensures cause { HasCause (K.seen sink.old).faults (K.seen sink.new).faults result }
 {
     let mut at = 0;
     while at < bytes.len() {

@@ -7,6 +7,11 @@ ghost use Rattle.ty_base.specs.Readings.{last_put, last_state, AllNext};
 ghost use Rattle.ty_base.specs.Numbers.{read_number};
 ghost use Rattle.ty_base.specs.Passing.{item_passes, pair_passes, delta_passes};
 ghost use Rattle.std.specs.List.{list_all};
+ghost use Rattle.std.specs.Prelude.{T};
+ghost use Rattle.std.specs.Ordering.{nat_cmp};
+ghost use Rattle.std.specs.Cmp.Lexicographic.{slice_cmp};
+ghost use Rattle.std.specs.FinMap.Entries.{is_sorted};
+ghost use Rattle.ty_base.specs.declared.entry.Entry.{Entry};
 
 /// Replay of the first n entries of the book is the world at the n-th cut.
 pub fn replay_gives_the_worlds()
@@ -36,6 +41,10 @@ pub fn readings()
         → is_closing ended items (j + 1) ≡ (not (is_update x)
         || (j + 1 - closing_before false items (j + 1) == BATCH_UPDATES) || (ended && (j + 1 == length items))) }
     ensures cuts { (ended : Bool) (items : List Item) → AllNext ended items 0 (cuts ended items) }
+    ensures ascending { (items : List Item) → T (is_sorted (slice_cmp nat_cmp) (folded items).pairs) }
+    ensures replayed { (entries : List Entry) → T (is_sorted (slice_cmp nat_cmp) (replay entries).pairs) }
+    ensures one { (a b : List Item) → ((q : List ℕ) → get (folded a).pairs q ≡ get (folded b).pairs q)
+        → (folded a).pairs ≡ (folded b).pairs }
 {}
 
 /// A test that all keys of the items pass, and another that all values pass, are passed by the pairs of

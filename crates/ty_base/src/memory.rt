@@ -1,9 +1,9 @@
 // A source and a sink in memory, each with a list of the calls that fail.
-ghost use Rattle.std.specs.Prelude.{◌≡◌, ◌≤◌, ◌<◌, ◌+◌, ◌↔◌, [], List, ℕ, length, flat_map, Some, IfOk, IsErr};
+ghost use Rattle.std.specs.Prelude.{◌≡◌, ◌≤◌, ◌<◌, ◌+◌, ◌-◌, ◌↔◌, min, [], List, ℕ, length, flat_map, map, Some, IfOk, IsErr};
 ghost use Rattle.std.specs.Io.{ReadsAtMost};
 ghost use Rattle.std.specs.Io.KnownBytes.{ReadConsumes, WriteAppends};
 ghost use Rattle.ty_base.specs.Causes.{HasCause};
-ghost use Rattle.ty_base.specs.Memory.{SourceFails, SinkFails};
+ghost use Rattle.ty_base.specs.Memory.{SourceFails, SinkFails, next_call, end_of, ends_after, piece_left};
 
 use crate::outside::{Failed, Sink, Source};
 use crate::text::NoMemory;
@@ -28,7 +28,7 @@ impl Model for MemSource {
 
     ghost Value = { MemorySource };
 
-    ghost view = { λ s. record { left = drop s.at s.bytes.items; calls = s.calls; fails = s.fails.items; faults = s.faults } };
+    ghost view = { λ s. record { left = drop s.at s.bytes.items; at = s.at; ends = s.ends.items; calls = s.calls; fails = s.fails.items; faults = s.faults } };
 
     ghost invariant = { λ s. s.at ≤ length s.bytes.items };
 }
@@ -39,13 +39,14 @@ impl MemSource {
     pub fn new(alloc: Global, pieces: Vec<Vec<u8>>, fails: Vec<u64>) -> Result<MemSource, NoMemory>
         ensures left { IfOk result (λ s. s.left ≡ flat_map (λ p. p.items) pieces.items) }
         ensures fails { IfOk result (λ s. s.fails ≡ fails.items) }
-        ensures begins { IfOk result (λ s. (s.calls ≡ 0) × (s.faults ≡ 0)) }
+        ensures ends { IfOk result (λ s. s.ends ≡ ends_after 0 (map (λ p. p.items) pieces.items)) }
+        ensures begins { IfOk result (λ s. (s.at ≡ 0) × (s.calls ≡ 0) × (s.faults ≡ 0)) }
     {
         let mut bytes = Vec::new(alloc);
         let mut ends = Vec::new(alloc);
         for piece in &pieces {
             bytes.extend_from_slice(piece)?;
-            ends.push(bytes.len())?;
+            ends.push(bytes.as_slice().len())?;
         }
         Ok(MemSource {
             bytes,
@@ -61,6 +62,7 @@ impl MemSource {
 // Where the piece ends in which a place lies.
 fn piece_end(ends: &[usize], at: usize, len: usize) -> usize
     requires { at ≤ len }
+    ensures exact { result ≡ end_of ends.now at len }
     ensures bounds { (at ≤ result) × (result ≤ len) }
     ensures some { at < len → at < result }
 {
@@ -73,9 +75,7 @@ fn piece_end(ends: &[usize], at: usize, len: usize) -> usize
 }
 
 impl Source for MemSource {
-    ghost left = { λ s. Some s.left };
-
-    ghost count = { λ s. s.faults };
+    ghost seen = { λ s. record { left = Some s.left; faults = s.faults } };
 
     fn take(&mut self, buf: &mut [u8]) -> Result<usize, Failed>
         requires { 0 < length buf.old }
@@ -83,6 +83,9 @@ impl Source for MemSource {
         ensures bytes { ReadConsumes (Some self.old.left) (Some self.new.left) result buf.new }
         ensures cause { HasCause self.old.faults self.new.faults result }
         ensures fails { IsErr result ↔ SourceFails self.old }
+        ensures piece { IfOk result (λ n. n ≡ piece_left self.old (length buf.old)) }
+        ensures calls { self.new.calls ≡ next_call self.old.calls }
+        ensures stays { (self.new.fails ≡ self.old.fails) × (self.new.ends ≡ self.old.ends) }
     {
         self.calls = self.calls.saturating_add(1);
         if self.fails.contains(&self.calls) {
@@ -150,9 +153,7 @@ impl MemSink {
 }
 
 impl Sink for MemSink {
-    ghost held = { λ s. Some s.held };
-
-    ghost count = { λ s. s.faults };
+    ghost seen = { λ s. record { held = Some s.held; faults = s.faults } };
 
     fn give(&mut self, piece: &[u8]) -> Result<usize, Failed>
         requires { 0 < length piece.now }
@@ -161,6 +162,9 @@ impl Sink for MemSink {
         ensures bytes { WriteAppends (Some self.old.held) (Some self.new.held) result piece.now }
         ensures cause { HasCause self.old.faults self.new.faults result }
         ensures fails { IsErr result ↔ SinkFails self.old }
+        ensures fits { IfOk result (λ n. n ≡ min (length piece.now) (self.old.room - length self.old.held)) }
+        ensures calls { self.new.calls ≡ next_call self.old.calls }
+        ensures stays { (self.new.fails ≡ self.old.fails) × (self.new.room ≡ self.old.room) }
     {
         self.calls = self.calls.saturating_add(1);
         let free = self.room.saturating_sub(self.bytes.len());

@@ -1,22 +1,23 @@
 -- A book's entries leave the worlds of its items, and pass where the items do.
-use Rattle.std.proofs.Common.{◌≡◌, ℕ, suc, ◌^◌, ◌<◌, ◌≤◌, Bool, true, false, cond, List, [], ◌∷◌, ◌++◌, length, map, refl, ap, ◌∙◌, arith}
+use Rattle.std.proofs.Common.{◌≡◌, ℕ, suc, ◌^◌, ◌<◌, ◌≤◌, Bool, true, false, cond, List, [], ◌∷◌, ◌++◌, length, take, map, refl, ap, ◌∙◌, arith}
 use Rattle.std.specs.Prelude.{None}
 use Rattle.std.specs.List.{All, AllByRecursion, list_all, filter, range_with_len}
 use Rattle.std.proofs.lemmas.List.FromFn.{length-range_with_len, length-map-range_with_len}
+use Rattle.ty_base.specs.declared.limits.TheConstants.{INPUT_BYTES}
 use Rattle.ty_base.specs.declared.item.Item.{Item}
 use Rattle.ty_base.specs.declared.entry.Entry.{Entry}
 use Rattle.ty_base.specs.Feed.{World, same_world, world_at, is_closing, closings, cuts_after, cuts, last, entry, book}
 use Rattle.ty_base.proofs.Passing.{both, deltas_pass}
 use Rattle.ty_base.proofs.Replay.{replays}
-use Rattle.ty_wire.specs.Limits.{key_passes, value_passes, entry_passes}
+use Rattle.ty_base.specs.Limits.{is_key_text, is_value_text, is_small_entry, AreSmall}
 use Rattle.ty_wire.specs.Wire.{IsWire, frames}
 use Rattle.ty_wire.specs.Talk.{ping_fits, Rise, IsTalk}
 use Rattle.ty_wire.specs.declared.message.Msg.{Msg}
-use Rattle.ty_wire.proofs.Talking.{talk-with-pings}
+use Rattle.ty_wire.proofs.Talk.{talk-with-pings}
 use Rattle.ty_client.specs.Rebuilt.{Rebuilt, ats}
 use Rattle.ty_client.specs.Heard.{Hears}
-use Rattle.ty_client.specs.Worlds.{IsRising, IsWorldOf, numbered, rebuilt_after, AreSmall, IsWorldAt, rebuilt_world}
-use Rattle.ty_client.proofs.Talks.{Rebuilds, within, pings_rebuild, front_rebuilds, whole_rebuilds}
+use Rattle.ty_client.specs.Worlds.{numbered, rebuilt_after, rebuilt_world}
+use Rattle.ty_client.proofs.Talks.{Rebuilds, within, pings_rebuild, first_worlds, whole_rebuilds}
 
 -- ---- a list of positions
 
@@ -56,20 +57,15 @@ module _ (ended : Bool) (items : List Item) where
   pub book_few : length items < 2 ^ 64 → length (book ended items) < 2 ^ 64
   book_few h = omega (arith, book_length, last_few, h)
 
-  entries_pass : AreSmall items → (ns : List ℕ) → list_all entry_passes (map (entry ended items) ns) ≡ true
+  entries_pass : AreSmall items → (ns : List ℕ) → list_all is_small_entry (map (entry ended items) ns) ≡ true
   entries_pass h [] = refl
-  entries_pass h (n ∷ ns) = both (deltas_pass key_passes value_passes ended items n h) (entries_pass h ns)
+  entries_pass h (n ∷ ns) = both (deltas_pass is_key_text is_value_text ended items n h) (entries_pass h ns)
 
-  pub book_passes : AreSmall items → list_all entry_passes (book ended items) ≡ true
+  pub book_passes : AreSmall items → list_all is_small_entry (book ended items) ≡ true
   unfolding book
   book_passes h = entries_pass h (range_with_len 1 (last ended items))
 
   -- ---- what is rebuilt
-
-  world_is : (a : Rebuilt) → IsWorldOf (book ended items) a → IsWorldAt ended items a
-  world_is a h =
-      let known : a.number ≤ last ended items = omega (arith, h.0, book_length) in
-      (known, h.1 ∙ ap (numbered a.number) (replays ended items a.number known))
 
   same_worlds : (n : ℕ) (ns : List ℕ) → Rise n ns (length (book ended items)) → map (rebuilt_after (book ended items)) (n ∷ ns) ≡ map (rebuilt_world ended items) (n ∷ ns)
   same_worlds n [] r =
@@ -78,13 +74,13 @@ module _ (ended : Bool) (items : List Item) where
       ap (λ (w : World). numbered n w ∷ map (rebuilt_after (book ended items)) (k ∷ ns)) (replays ended items n (omega (arith, within n (k ∷ ns) (length (book ended items)) r, book_length)))
       ∙ ap (λ (l : List Rebuilt). rebuilt_world ended items n ∷ l) (same_worlds k ns r.1)
 
-  pub front_at : (e0 : ℕ) (ns bytes more : List ℕ) (all : List Msg) → Rise e0 ns (length (book ended items)) → Rebuilds (book ended items) e0 ns all → AllByRecursion IsWire all → length bytes < 2 ^ 40 → bytes ++ more ≡ frames all
-      → (ms : List Msg) × Hears bytes ms None × IsRising (ats ms) × All (λ a. IsWorldAt ended items a) (ats ms)
-  front_at e0 ns bytes more all rise b w short e =
-      let r = front_rebuilds (book ended items) e0 ns all bytes more rise b w short e in
-      (r.0, r.1, r.2, λ k d lt. world_is _ (r.3 k d lt))
+  pub first_at : (e0 : ℕ) (ns bytes more : List ℕ) (all : List Msg) → Rise e0 ns (length (book ended items)) → Rebuilds (book ended items) e0 ns all → AllByRecursion IsWire all → length bytes < INPUT_BYTES → bytes ++ more ≡ frames all
+      → (ms : List Msg) × (k : ℕ) × Hears bytes ms None × (ats ms ≡ take k (map (rebuilt_world ended items) (e0 ∷ ns)))
+  first_at e0 ns bytes more all rise b w short e =
+      let r = first_worlds (book ended items) e0 ns all bytes more b w short e in
+      (r.0, r.1, r.2, r.3 ∙ ap (take r.1) (same_worlds e0 ns rise))
 
-  pub whole_at : (e0 : ℕ) (ns : List ℕ) (all : List Msg) → Rise e0 ns (length (book ended items)) → Rebuilds (book ended items) e0 ns all → AllByRecursion IsWire all → length (frames all) < 2 ^ 40
+  pub whole_at : (e0 : ℕ) (ns : List ℕ) (all : List Msg) → Rise e0 ns (length (book ended items)) → Rebuilds (book ended items) e0 ns all → AllByRecursion IsWire all → length (frames all) < INPUT_BYTES
       → Hears (frames all) all None × (ats all ≡ map (rebuilt_world ended items) (e0 ∷ ns))
   whole_at e0 ns all rise b w short =
       let r = whole_rebuilds (book ended items) e0 ns all b w short in
@@ -92,13 +88,13 @@ module _ (ended : Bool) (items : List Item) where
 
   -- ---- with pings
 
-  pub front_with_pings : (e0 : ℕ) (ns bytes more : List ℕ) (all : List Msg) → AreSmall items → length items < 2 ^ 64 → IsTalk (book ended items) e0 ns all → list_all ping_fits all ≡ true → length bytes < 2 ^ 40 → bytes ++ more ≡ frames all
-      → (ms : List Msg) × Hears bytes ms None × IsRising (ats ms) × All (λ a. IsWorldAt ended items a) (ats ms)
+  pub front_with_pings : (e0 : ℕ) (ns bytes more : List ℕ) (all : List Msg) → AreSmall items → length items < 2 ^ 64 → IsTalk (book ended items) e0 ns all → list_all ping_fits all ≡ true → length bytes < INPUT_BYTES → bytes ++ more ≡ frames all
+      → (ms : List Msg) × (k : ℕ) × Hears bytes ms None × (ats ms ≡ take k (map (rebuilt_world ended items) (e0 ∷ ns)))
   front_with_pings e0 ns bytes more all p l t q short e =
       let es : List Entry = book ended items in
-      front_at e0 ns bytes more all t.rise (pings_rebuild es e0 ns all t) (talk-with-pings es e0 ns all (book_passes p) (book_few l) t q) short e
+      first_at e0 ns bytes more all t.rise (pings_rebuild es e0 ns all t) (talk-with-pings es e0 ns all (book_passes p) (book_few l) t q) short e
 
-  pub whole_with_pings : (e0 : ℕ) (ns : List ℕ) (all : List Msg) → AreSmall items → length items < 2 ^ 64 → IsTalk (book ended items) e0 ns all → list_all ping_fits all ≡ true → length (frames all) < 2 ^ 40
+  pub whole_with_pings : (e0 : ℕ) (ns : List ℕ) (all : List Msg) → AreSmall items → length items < 2 ^ 64 → IsTalk (book ended items) e0 ns all → list_all ping_fits all ≡ true → length (frames all) < INPUT_BYTES
       → Hears (frames all) all None × (ats all ≡ map (rebuilt_world ended items) (e0 ∷ ns))
   whole_with_pings e0 ns all p l t q short =
       let es : List Entry = book ended items in

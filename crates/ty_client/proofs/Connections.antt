@@ -4,18 +4,19 @@ use Rattle.std.specs.Prelude.{Option, None, Some, option_map, slice_get, is_some
 use Rattle.std.specs.Option.{option_or}
 use Rattle.std.specs.List.{AllByRecursion}
 use Rattle.ty_wire.specs.Wire.{IsWire, frames}
-use Rattle.ty_wire.specs.Held.{Held as HeldFrames}
-use Rattle.ty_wire.specs.Stream.{Stands as FramesStand, StandsBy, IsFault, Brings, IsBad, read_part}
+use Rattle.ty_wire.specs.Held.{FramesHeld}
+use Rattle.ty_wire.specs.Stream.{FramesStand, FramesStandBy, IsFault, Brings}
 use Rattle.ty_wire.specs.declared.message.Msg.{Msg}
-use Rattle.ty_wire.specs.declared.splitting.WireFault.{WireFault}
-use Rattle.ty_wire.specs.declared.splitting.WireFault.TheVariants.{TooLong, NotJson, Shape, TooMuch}
+use Rattle.ty_wire.specs.declared.fault.WireFault.{WireFault}
+use Rattle.ty_wire.specs.declared.fault.WireFault.TheVariants.{TooLong, NotJson, Shape, TooMuch}
+use Rattle.ty_wire.proofs.Stream.{brings}
 use Rattle.ty_client.specs.declared.fault.StreamFault.{StreamFault}
 use Rattle.ty_client.specs.declared.fault.StreamFault.TheVariants.{Wire}
-use Rattle.ty_client.specs.Places.{fault_at, Judged, judged_by, judged_after, judged}
+use Rattle.ty_client.specs.Places.{place_fault, Judged, judged_by, judged_after, judged}
 use Rattle.ty_client.specs.Rebuilt.{Rebuilt, ats, ats_after, last_held}
 use Rattle.ty_client.specs.Heard.{Hears, Holds, HoldsAfter}
-use Rattle.ty_client.specs.Stands.{Staged, Rebuilding, IsOpen, GoesOn, Stands, Brought}
-use Rattle.ty_client.specs.Steps.{IsJudged, IsHeard, HasHistory}
+use Rattle.ty_client.specs.Rebuild.{HasHistory, Staged, RebuildHeld, IsGoodSoFar, IsGoodUnless, RebuildStands, Brought}
+use Rattle.ty_client.specs.steps.Stage.{IsJudged, IsHeard}
 use Rattle.ty_client.proofs.Judging.{judged_more, judged_none, ats_more, ats_none, last_more}
 
 -- what a `Frames` stands for
@@ -26,7 +27,7 @@ fault_each bytes ms (TooLong n len) h = h.each
 fault_each bytes ms (NotJson n) h = h.each
 fault_each bytes ms (Shape n) h = h.each
 
-each_by : (o : Option WireFault) (f : HeldFrames) (bytes : List ℕ) (ms : List Msg) → StandsBy o f bytes ms → AllByRecursion IsWire ms
+each_by : (o : Option WireFault) (f : FramesHeld) (bytes : List ℕ) (ms : List Msg) → FramesStandBy o f bytes ms → AllByRecursion IsWire ms
 each_by None f bytes ms h = h.reads.each
 each_by (Some w) f bytes ms h = fault_each bytes ms w h
 
@@ -35,31 +36,8 @@ all_behind P [] ys h = h
 all_behind P (x ∷ xs) ys h = all_behind P xs ys h.1
 
 -- the messages behind the earlier ones have frames
-pub wire_behind : (f : HeldFrames) (bytes : List ℕ) (ms more : List Msg) → FramesStand f bytes (ms ++ more) → AllByRecursion IsWire more
+pub wire_behind : (f : FramesHeld) (bytes : List ℕ) (ms more : List Msg) → FramesStand f bytes (ms ++ more) → AllByRecursion IsWire more
 wire_behind f bytes ms more h = all_behind IsWire ms more (each_by f.fault f bytes (ms ++ more) h.1)
-
-brings_by : (o : Option WireFault) (f : HeldFrames) (bytes : List ℕ) (ms : List Msg) → StandsBy o f bytes ms → Brings bytes ms o
-brings_by None f bytes ms h = (h.short, (f.rest, h.reads))
-brings_by (Some w) f bytes ms h = h
-
-pub brings_of : (f : HeldFrames) (bytes : List ℕ) (ms : List Msg) → FramesStand f bytes ms → Brings bytes ms f.fault
-brings_of f bytes ms h = brings_by f.fault f bytes ms h.1
-
-nothing_bad : (rest : List ℕ) (w : WireFault) → length rest ≡ 0 → IsBad 1 rest w → ⊥
-nothing_bad rest (TooLong n len) e h = omega (arith, h.2)
-nothing_bad rest (NotJson n) e h = omega (arith, h.1.head)
-nothing_bad rest (Shape n) e h = omega (arith, h.1.head)
-nothing_bad rest TooMuch e h = h
-
-nothing_read : (rest : List ℕ) → read_part [] ≡ frames [] ++ rest → length rest ≡ 0
-nothing_read rest e = ap length (sym e)
-
-no_fault_by : (o : Option WireFault) (f : HeldFrames) → StandsBy o f [] [] → o ≡ None
-no_fault_by None f h = refl
-no_fault_by (Some TooMuch) f h = absurd (omega (arith, h.0))
-no_fault_by (Some (TooLong n len)) f h = absurd (nothing_bad h.rest (TooLong n len) (nothing_read h.rest h.whole) h.bad)
-no_fault_by (Some (NotJson n)) f h = absurd (nothing_bad h.rest (NotJson n) (nothing_read h.rest h.whole) h.bad)
-no_fault_by (Some (Shape n)) f h = absurd (nothing_bad h.rest (Shape n) (nothing_read h.rest h.whole) h.bad)
 
 -- a piece
 
@@ -70,15 +48,15 @@ all_good (Some f) m ms later goes h = cc
 pub good_all : (before ms : List Msg) → (judged_after before ms).fault ≡ None → (judged_after before ms).good ≡ ms
 unfolding judged_after
 good_all before [] h = refl
-good_all before (m ∷ ms) h = all_good (fault_at before m) m ms (judged_after (before ++ m ∷ []) ms) (good_all (before ++ m ∷ []) ms) h
+good_all before (m ∷ ms) h = all_good (place_fault before m) m ms (judged_after (before ++ m ∷ []) ms) (good_all (before ++ m ∷ []) ms) h
 
-goes : (fault : Option StreamFault) (wire : Option WireFault) (u : HeldFrames) (s : Staged) (bytes : List ℕ) (ms : List Msg) → (fault ≡ None → wire ≡ None → IsOpen u s bytes ms) → GoesOn (option_or fault (option_map Wire wire)) u s bytes ms
+goes : (fault : Option StreamFault) (wire : Option WireFault) (u : FramesHeld) (s : Staged) (bytes : List ℕ) (ms : List Msg) → (fault ≡ None → wire ≡ None → IsGoodSoFar u s bytes ms) → IsGoodUnless (option_or fault (option_map Wire wire)) u s bytes ms
 goes None None u s bytes ms h = h refl refl
 goes None (Some w) u s bytes ms h = tt
 goes (Some f) wire u s bytes ms h = tt
 
-pub heard_on : (u v : HeldFrames) (s t : Staged) (bytes piece : List ℕ) (ms msgs : List Msg) (at_ends : List Rebuilt) (fault : Option StreamFault) (wire : Option WireFault) (up up' : List ℕ)
-    → IsOpen u s bytes ms → FramesStand v (bytes ++ piece) (ms ++ msgs) → wire ≡ v.fault → IsJudged ms msgs at_ends fault t up up'
+pub heard_on : (u v : FramesHeld) (s t : Staged) (bytes piece : List ℕ) (ms msgs : List Msg) (at_ends : List Rebuilt) (fault : Option StreamFault) (wire : Option WireFault) (up up' : List ℕ)
+    → IsGoodSoFar u s bytes ms → FramesStand v (bytes ++ piece) (ms ++ msgs) → wire ≡ v.fault → IsJudged ms msgs at_ends fault t up up'
     → IsHeard v t bytes piece ms at_ends (option_or fault (option_map Wire wire)) up up'
 heard_on u v s t bytes piece ms msgs at_ends fault wire up up' o k w j =
     let e : judged (ms ++ msgs) ≡ record { good = ms ++ (judged_after ms msgs).good; fault = (judged_after ms msgs).fault } = judged_more [] ms msgs (ap (λ (x : Judged). x.fault) o.good) in
@@ -91,7 +69,7 @@ heard_on u v s t bytes piece ms msgs at_ends fault wire up up' o k w j =
         stops = λ _. refl;
         all = ms ++ msgs;
         wire = wire;
-        brings = subst (λ (x : Option WireFault). Brings (bytes ++ piece) (ms ++ msgs) x) (sym w) (brings_of v (bytes ++ piece) (ms ++ msgs) k);
+        brings = subst (λ (x : Option WireFault). Brings (bytes ++ piece) (ms ++ msgs) x) (sym w) (brings v (bytes ++ piece) (ms ++ msgs) k);
         good = sym (ap (λ (x : Judged). x.good) e);
         first = ap (λ (x : Option StreamFault). option_or x (option_map Wire wire)) (j.fault_is ∙ sym (ap (λ (x : Judged). x.fault) e));
       };
@@ -108,10 +86,10 @@ heard_on u v s t bytes piece ms msgs at_ends fault wire up up' o k w j =
     }
 
 -- after a fault nothing is heard
-pub nothing_more : (old new : Rebuilding) (before : List (List ℕ)) (bytes piece : List ℕ) (ms : List Msg) (at_ends : List Rebuilt) (f : StreamFault) → Stands old before bytes ms → old.fault ≡ Some f → new ≡ old → at_ends ≡ [] → Brought old new before bytes piece ms at_ends
+pub nothing_more : (old new : RebuildHeld) (before : List (List ℕ)) (bytes piece : List ℕ) (ms : List Msg) (at_ends : List Rebuilt) (f : StreamFault) → RebuildStands old before bytes ms → old.fault ≡ Some f → new ≡ old → at_ends ≡ [] → Brought old new before bytes piece ms at_ends
 nothing_more old new before bytes piece ms at_ends f s e same a = record {
   more = [];
-  stands = subst (λ (r : Rebuilding). Stands r before (bytes ++ piece) (ms ++ [])) (sym same) (subst (λ (l : List Msg). Stands old before (bytes ++ piece) l) (sym (append-nil ms)) (record {
+  stands = subst (λ (r : RebuildHeld). RebuildStands r before (bytes ++ piece) (ms ++ [])) (sym same) (subst (λ (l : List Msg). RebuildStands old before (bytes ++ piece) l) (sym (append-nil ms)) (record {
     unspent = s.unspent;
     hears = record {
       front = s.hears.front;
@@ -124,29 +102,29 @@ nothing_more old new before bytes piece ms at_ends f s e same a = record {
       good = s.hears.good;
       first = s.hears.first;
     };
-    goes_on = subst (λ (o : Option StreamFault). GoesOn o old.unread old.stage (bytes ++ piece) ms) (sym e) tt;
+    goes_on = subst (λ (o : Option StreamFault). IsGoodUnless o old.unread old.stage (bytes ++ piece) ms) (sym e) tt;
     held_before = s.held_before;
     holds = s.holds;
     held_is = s.held_is;
   }));
   at_ends_are = a ∙ sym (ats_none ms);
-  up = ap (λ (r : Rebuilding). r.up) same ∙ sym (append-nil old.up);
+  up = ap (λ (r : RebuildHeld). r.up) same ∙ sym (append-nil old.up);
 }
 
-pub brought : (old new : Rebuilding) (before : List (List ℕ)) (bytes piece : List ℕ) (ms : List Msg) (at_ends : List Rebuilt) (fault : Option StreamFault)
-    → Stands old before bytes ms → old.fault ≡ None
-    → ((b : List ℕ) (l : List Msg) → IsOpen old.unread old.stage b l → IsHeard new.unread new.stage b piece l at_ends fault old.up new.up)
+pub brought : (old new : RebuildHeld) (before : List (List ℕ)) (bytes piece : List ℕ) (ms : List Msg) (at_ends : List Rebuilt) (fault : Option StreamFault)
+    → RebuildStands old before bytes ms → old.fault ≡ None
+    → ((b : List ℕ) (l : List Msg) → IsGoodSoFar old.unread old.stage b l → IsHeard new.unread new.stage b piece l at_ends fault old.up new.up)
     → new.fault ≡ fault → new.held ≡ last_held old.held at_ends → new.spent ≡ false
     → Brought old new before bytes piece ms at_ends
 brought old new before bytes piece ms at_ends fault s e hear f k n =
-    let o : IsOpen old.unread old.stage bytes ms = subst (λ (x : Option StreamFault). GoesOn x old.unread old.stage bytes ms) e s.goes_on in
+    let o : IsGoodSoFar old.unread old.stage bytes ms = subst (λ (x : Option StreamFault). IsGoodUnless x old.unread old.stage bytes ms) e s.goes_on in
     let h : IsHeard new.unread new.stage bytes piece ms at_ends fault old.up new.up = hear bytes ms o in
     record {
       more = h.more;
       stands = record {
         unspent = n;
         hears = subst (λ (x : Option StreamFault). Hears (bytes ++ piece) (ms ++ h.more) x) (sym f) h.hears;
-        goes_on = subst (λ (x : Option StreamFault). GoesOn x new.unread new.stage (bytes ++ piece) (ms ++ h.more)) (sym f) h.goes_on;
+        goes_on = subst (λ (x : Option StreamFault). IsGoodUnless x new.unread new.stage (bytes ++ piece) (ms ++ h.more)) (sym f) h.goes_on;
         held_before = s.held_before;
         holds = s.holds;
         held_is =
@@ -159,10 +137,9 @@ brought old new before bytes piece ms at_ends fault s e hear f k n =
 
 -- connections
 
-pub begins : (r : Rebuilding) (connections : List (List ℕ)) → r.spent ≡ false → r.fault ≡ None → FramesStand r.unread [] [] → r.stage ≡ record { frame = 1; status = None; fresh = false; number = None; pairs = [] } → Holds connections r.held → Stands r connections [] []
+pub begins : (r : RebuildHeld) (connections : List (List ℕ)) → r.spent ≡ false → r.fault ≡ None → r.unread.fault ≡ None → FramesStand r.unread [] [] → r.stage ≡ record { frame = 1; status = None; fresh = false; number = None; pairs = [] } → Holds connections r.held → RebuildStands r connections [] []
 unfolding ats_after last_held
-begins r connections n f k s h =
-    let w : r.unread.fault ≡ None = no_fault_by r.unread.fault r.unread k.1 in
+begins r connections n f w k s h =
     record {
       unspent = n;
       hears = record {
@@ -172,11 +149,11 @@ begins r connections n f k s h =
         stops = λ _. refl;
         all = [];
         wire = None;
-        brings = subst (λ (x : Option WireFault). Brings [] [] x) w (brings_of r.unread [] [] k);
+        brings = subst (λ (x : Option WireFault). Brings [] [] x) w (brings r.unread [] [] k);
         good = sym (ap (λ (x : Judged). x.good) (judged_none []));
         first = f ∙ sym (ap (λ (x : Judged). option_or x.fault None) (judged_none []));
       };
-      goes_on = subst (λ (x : Option StreamFault). GoesOn x r.unread r.stage [] []) (sym f) (record { frames_stand = k; no_wire_fault = w; good = judged_none []; stage_is = s });
+      goes_on = subst (λ (x : Option StreamFault). IsGoodUnless x r.unread r.stage [] []) (sym f) (record { frames_stand = k; no_wire_fault = w; good = judged_none []; stage_is = s });
       held_before = r.held;
       holds = h;
       held_is = refl;
@@ -187,7 +164,7 @@ holds_more held [] now bytes ms fault h k = (ms, fault, k, ap (λ (x : Option Re
 holds_more held (c ∷ cs) now bytes ms fault (l, f, x, h) k = (l, f, x, holds_more (last_held held (ats l)) cs now bytes ms fault h k)
 
 -- what is held is what the connections before and this one leave
-pub holds_all : (r : Rebuilding) (before : List (List ℕ)) (bytes : List ℕ) (ms : List Msg) → Stands r before bytes ms → Holds (before ++ bytes ∷ []) r.held
+pub holds_all : (r : RebuildHeld) (before : List (List ℕ)) (bytes : List ℕ) (ms : List Msg) → RebuildStands r before bytes ms → Holds (before ++ bytes ∷ []) r.held
 holds_all r before bytes ms s = subst (λ (x : Option Rebuilt). Holds (before ++ bytes ∷ []) x) (sym s.held_is) (holds_more None before s.held_before bytes ms r.fault s.holds s.hears)
 
 pub last_is : (held : Option Rebuilt) (xs : List Rebuilt) (a : Rebuilt) → slice_get xs (length xs - 1) ≡ Some a → last_held held xs ≡ Some a
@@ -205,7 +182,7 @@ none_left held (x ∷ xs) h = absurd (omega arith)
 
 -- as `Rebuild` uses them
 
-pub history_wire : (u v : HeldFrames) (piece : List ℕ) (msgs : List Msg) → HasHistory false u → ((bytes : List ℕ) (ms : List Msg) → FramesStand u bytes ms → FramesStand v (bytes ++ piece) (ms ++ msgs)) → AllByRecursion IsWire msgs
+pub history_wire : (u v : FramesHeld) (piece : List ℕ) (msgs : List Msg) → HasHistory false u → ((bytes : List ℕ) (ms : List Msg) → FramesStand u bytes ms → FramesStand v (bytes ++ piece) (ms ++ msgs)) → AllByRecursion IsWire msgs
 history_wire u v piece msgs (bytes, ms, k) f = wire_behind v (bytes ++ piece) ms msgs (f bytes ms k)
 
 pub some_of : {A : Type 0} (o : Option A) → is_some o ≡ true → (x : A) × (o ≡ Some x)
@@ -216,16 +193,16 @@ pub none_of : {A : Type 0} (o : Option A) → is_some o ≡ false → o ≡ None
 none_of None h = refl
 none_of (Some x) h = cc
 
-pub brought_from : (v old new : Rebuilding) (before : List (List ℕ)) (bytes piece : List ℕ) (ms : List Msg) (at_ends : List Rebuilt) (fault : Option StreamFault)
+pub brought_from : (v old new : RebuildHeld) (before : List (List ℕ)) (bytes piece : List ℕ) (ms : List Msg) (at_ends : List Rebuilt) (fault : Option StreamFault)
     → v ≡ old → v.fault ≡ None
-    → ((b : List ℕ) (l : List Msg) → IsOpen v.unread v.stage b l → IsHeard new.unread new.stage b piece l at_ends fault v.up new.up)
+    → ((b : List ℕ) (l : List Msg) → IsGoodSoFar v.unread v.stage b l → IsHeard new.unread new.stage b piece l at_ends fault v.up new.up)
     → new.fault ≡ fault → new.held ≡ last_held v.held at_ends → new.spent ≡ false
-    → Stands old before bytes ms → Brought old new before bytes piece ms at_ends
+    → RebuildStands old before bytes ms → Brought old new before bytes piece ms at_ends
 brought_from v old new before bytes piece ms at_ends fault e n hear f k u =
-    let P : Rebuilding → Type 0 = λ r. Stands r before bytes ms → Brought r new before bytes piece ms at_ends in
+    let P : RebuildHeld → Type 0 = λ r. RebuildStands r before bytes ms → Brought r new before bytes piece ms at_ends in
     subst P e (λ s. brought v new before bytes piece ms at_ends fault s n hear f k u)
 
-pub nothing_from : (v old : Rebuilding) (before : List (List ℕ)) (bytes piece : List ℕ) (ms : List Msg) (at_ends : List Rebuilt) → v ≡ old → is_some v.fault ≡ true → at_ends ≡ [] → Stands old before bytes ms → Brought old old before bytes piece ms at_ends
+pub nothing_from : (v old : RebuildHeld) (before : List (List ℕ)) (bytes piece : List ℕ) (ms : List Msg) (at_ends : List Rebuilt) → v ≡ old → is_some v.fault ≡ true → at_ends ≡ [] → RebuildStands old before bytes ms → Brought old old before bytes piece ms at_ends
 nothing_from v old before bytes piece ms at_ends e t a s =
     let f : (x : StreamFault) × (v.fault ≡ Some x) = some_of v.fault t in
-    nothing_more old old before bytes piece ms at_ends f.0 s (sym (ap (λ (r : Rebuilding). r.fault) e) ∙ f.1) refl a
+    nothing_more old old before bytes piece ms at_ends f.0 s (sym (ap (λ (r : RebuildHeld). r.fault) e) ∙ f.1) refl a

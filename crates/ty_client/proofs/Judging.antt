@@ -10,10 +10,10 @@ use Rattle.ty_wire.specs.Wire.{frame, frames}
 use Rattle.ty_wire.specs.declared.message.Msg.{Msg}
 use Rattle.ty_wire.specs.declared.message.Msg.TheVariants.{ClientHello, ServerHello, Kvs, Status as StatusMsg, Crumb, Ping, Pong}
 use Rattle.ty_client.specs.declared.fault.StreamFault.{StreamFault}
-use Rattle.ty_client.specs.Places.{fault_at, Judged, judged_by, judged_after, latest, status_in, number_in, is_status, has_status}
+use Rattle.ty_client.specs.Places.{place_fault, Judged, judged_by, judged_after, latest, told_status, told_number, is_status, has_status}
 use Rattle.ty_client.specs.Rebuilt.{Rebuilt, at_of, ats_after, deltas_in, rebuilt_map, pong_of, pongs, last_held}
-use Rattle.ty_client.specs.Stands.{staged}
-use Rattle.ty_client.specs.Steps.{next_stage, stage_ats}
+use Rattle.ty_client.specs.Rebuild.{staged}
+use Rattle.ty_client.specs.steps.Stage.{next_stage, stage_ats}
 
 -- behind good messages the rest is judged alone
 abbrev behind : List Msg → Judged → Judged
@@ -28,10 +28,10 @@ pub judged_more : (before ms more : List Msg) → (judged_after before ms).fault
 unfolding judged_after
 judged_more before [] more h = ap (λ b. judged_after b more) (sym (append-nil before))
 judged_more before (m ∷ ms) more h =
-    judge_first (fault_at before m) m ms (judged_after (before ++ m ∷ []) ms) (judged_after (before ++ m ∷ []) (ms ++ more)) (judged_after (before ++ (m ∷ ms)) more)
+    judge_first (place_fault before m) m ms (judged_after (before ++ m ∷ []) ms) (judged_after (before ++ m ∷ []) (ms ++ more)) (judged_after (before ++ (m ∷ ms)) more)
     (λ k. judged_more (before ++ m ∷ []) ms more k ∙ ap (λ b. behind ms (judged_after b more)) (append_assoc before (m ∷ []) ms)) h
 
-pub judged_one : (before : List Msg) (m : Msg) (ms : List Msg) → judged_after before (m ∷ ms) ≡ judged_by (fault_at before m) m (judged_after (before ++ m ∷ []) ms)
+pub judged_one : (before : List Msg) (m : Msg) (ms : List Msg) → judged_after before (m ∷ ms) ≡ judged_by (place_fault before m) m (judged_after (before ++ m ∷ []) ms)
 unfolding judged_after
 judged_one before m ms = refl
 
@@ -39,12 +39,12 @@ pub judged_none : (before : List Msg) → judged_after before [] ≡ record { go
 unfolding judged_after
 judged_none before = refl
 
-pub judged_push : (before done : List Msg) (m : Msg) → judged_after before done ≡ record { good = done; fault = None } → fault_at (before ++ done) m ≡ None → judged_after before (done ++ m ∷ []) ≡ record { good = done ++ m ∷ []; fault = None }
+pub judged_push : (before done : List Msg) (m : Msg) → judged_after before done ≡ record { good = done; fault = None } → place_fault (before ++ done) m ≡ None → judged_after before (done ++ m ∷ []) ≡ record { good = done ++ m ∷ []; fault = None }
 judged_push before done m e h =
     judged_more before done (m ∷ []) (ap (λ (j : Judged). j.fault) e)
     ∙ ap (behind done) (judged_one (before ++ done) m [] ∙ ap (λ f. judged_by f m (judged_after ((before ++ done) ++ m ∷ []) [])) h ∙ ap (judged_by None m) (judged_none ((before ++ done) ++ m ∷ [])))
 
-pub judged_stop : (before done : List Msg) (m : Msg) (ms : List Msg) (f : StreamFault) → judged_after before done ≡ record { good = done; fault = None } → fault_at (before ++ done) m ≡ Some f → judged_after before (done ++ m ∷ ms) ≡ record { good = done; fault = Some f }
+pub judged_stop : (before done : List Msg) (m : Msg) (ms : List Msg) (f : StreamFault) → judged_after before done ≡ record { good = done; fault = None } → place_fault (before ++ done) m ≡ Some f → judged_after before (done ++ m ∷ ms) ≡ record { good = done; fault = Some f }
 judged_stop before done m ms f e h =
     judged_more before done (m ∷ ms) (ap (λ (j : Judged). j.fault) e)
     ∙ ap (behind done) (judged_one (before ++ done) m ms ∙ ap (λ g. judged_by g m (judged_after ((before ++ done) ++ m ∷ []) ms)) h)
@@ -97,9 +97,9 @@ map_push before m =
 pub staged_push : (before : List Msg) (m : Msg) → staged (before ++ m ∷ []) ≡ next_stage (staged before) m
 staged_push before m =
     let frame : length (before ++ m ∷ []) + 1 ≡ length before + 1 + 1 = ap (λ n. n + 1) (length-append before (m ∷ [])) in
-    let status : latest status_in (before ++ m ∷ []) ≡ option_or (status_in m) (latest status_in before) = latest_push status_in before m in
+    let status : latest told_status (before ++ m ∷ []) ≡ option_or (told_status m) (latest told_status before) = latest_push told_status before m in
     let fresh : has_status (before ++ m ∷ []) ≡ unwrap_or (is_status m) (has_status before) = ap (λ o. unwrap_or o false) (latest_push is_status before m) ∙ fresh_or (is_status m) (latest is_status before) in
-    let number : latest number_in (before ++ m ∷ []) ≡ option_or (number_in m) (latest number_in before) = latest_push number_in before m in
+    let number : latest told_number (before ++ m ∷ []) ≡ option_or (told_number m) (latest told_number before) = latest_push told_number before m in
     let pairs : rebuilt_map (before ++ m ∷ []) ≡ fold changed (rebuilt_map before) (deltas_in m) = map_push before m in
     λ i. record { frame = frame i; status = status i; fresh = fresh i; number = number i; pairs = pairs i }
 

@@ -1,4 +1,3 @@
-pub mod Small
 pub mod Judging
 pub mod Progress
 pub mod Connections

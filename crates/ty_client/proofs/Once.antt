@@ -6,18 +6,21 @@ use Rattle.std.specs.List.{AllByRecursion}
 use Rattle.std.proofs.lemmas.Bool.{cases_lt}
 use Rattle.std.proofs.lemmas.List.{take_all, take-append-le, take-append-drop}
 use Rattle.std.proofs.Math.Seq.{take-append_seam}
+use Rattle.ty_base.specs.declared.limits.TheConstants.{INPUT_BYTES}
 use Rattle.ty_wire.specs.Wire.{IsWire, frame, frames}
 use Rattle.ty_wire.specs.Stream.{Brings, Breaks, read_part}
 use Rattle.ty_wire.specs.declared.message.Msg.{Msg}
-use Rattle.ty_wire.specs.declared.splitting.WireFault.{WireFault}
-use Rattle.ty_wire.specs.declared.splitting.WireFault.TheVariants.{TooLong, NotJson, Shape, TooMuch}
+use Rattle.ty_wire.specs.declared.fault.WireFault.{WireFault}
+use Rattle.ty_wire.specs.declared.fault.WireFault.TheVariants.{TooLong, NotJson, Shape, TooMuch}
 use Rattle.ty_wire.proofs.Fronts.{IsStuck, stuck_part, stuck_bad, same_front}
-use Rattle.ty_wire.proofs.Feeding.{fault-more, one_outcome}
+use Rattle.ty_wire.proofs.Readings.{brings-some}
+use Rattle.ty_wire.proofs.Stream.{fault-more, one_outcome}
 use Rattle.ty_client.specs.declared.fault.StreamFault.{StreamFault}
 use Rattle.ty_client.specs.declared.fault.StreamFault.TheVariants.{Wire}
-use Rattle.ty_client.specs.Places.{fault_at, Judged, judged_by, judged_after, judged}
-use Rattle.ty_client.specs.Rebuilt.{Rebuilt, ats, last_held}
+use Rattle.ty_client.specs.Places.{place_fault, Judged, judged_by, judged_after, judged}
+use Rattle.ty_client.specs.Rebuilt.{Rebuilt, ats, ats_after, last_held}
 use Rattle.ty_client.specs.Heard.{Hears, HoldsAfter}
+use Rattle.ty_client.proofs.Judging.{ats_more}
 
 -- ---- the messages of more bytes begin with those of fewer
 
@@ -34,7 +37,7 @@ broken bytes ms w b = record { rest = b.rest; whole = b.whole; each = b.each; st
 ends : (bytes : List ℕ) (ms : List Msg) (w : Option WireFault) → Brings bytes ms w → Ends (read_part bytes) ms
 ends bytes ms None b =
     let r = b.1.1 in
-    record { rest = b.1.0; whole = take_all (2 ^ 40 - 1) bytes (omega (arith, b.0)) ∙ r.whole; each = r.each; stuck = stuck_part b.1.0 r.part }
+    record { rest = b.1.0; whole = take_all (INPUT_BYTES - 1) bytes (omega (arith, b.0)) ∙ r.whole; each = r.each; stuck = stuck_part b.1.0 r.part }
 ends bytes ms (Some TooMuch) b = let r = b.1.1 in record { rest = b.1.0; whole = r.whole; each = r.each; stuck = stuck_part b.1.0 r.part }
 ends bytes ms (Some (TooLong n len)) b = broken (read_part bytes) ms (TooLong n len) b
 ends bytes ms (Some (NotJson n)) b = broken (read_part bytes) ms (NotJson n) b
@@ -61,7 +64,7 @@ brings_more : (bytes more : List ℕ) (ms ns : List Msg) (v w : Option WireFault
 brings_more bytes more ms ns v w a b =
     let p : Ends (read_part bytes) ms = ends bytes ms v a in
     let q : Ends (read_part (bytes ++ more)) ns = ends (bytes ++ more) ns w b in
-    let x = part_more (2 ^ 40 - 1) bytes more in
+    let x = part_more (INPUT_BYTES - 1) bytes more in
     begins ms ns (p.rest ++ x.0) q.rest p.each q.each q.stuck
     (sym (append_assoc (frames ms) p.rest x.0) ∙ ap (λ (l : List ℕ). l ++ x.0) (sym p.whole) ∙ sym x.1 ∙ q.whole)
 
@@ -71,7 +74,7 @@ stopped : (before ms more : List Msg) (f : StreamFault) → (judged_after before
 unfolding judged_after
 stopped before [] more f h = cc
 stopped before (m ∷ ms) more f h =
-    elim (fault_at before m) as (λ o. (judged_by o m (judged_after (before ++ m ∷ []) ms)).fault ≡ Some f → judged_by o m (judged_after (before ++ m ∷ []) (ms ++ more)) ≡ judged_by o m (judged_after (before ++ m ∷ []) ms)) [
+    elim (place_fault before m) as (λ o. (judged_by o m (judged_after (before ++ m ∷ []) ms)).fault ≡ Some f → judged_by o m (judged_after (before ++ m ∷ []) (ms ++ more)) ≡ judged_by o m (judged_after (before ++ m ∷ []) ms)) [
       | None ↦ λ g. ap (judged_by None m) (stopped (before ++ m ∷ []) ms more f g)
       | Some x ↦ λ g. refl
     ] h
@@ -148,7 +151,7 @@ once bytes ms ns f g a b =
     ]
 
 -- no fault: all bytes came before byte number 2^40
-pub short : (bytes : List ℕ) (ms : List Msg) → Hears bytes ms None → length bytes < 2 ^ 40
+pub short : (bytes : List ℕ) (ms : List Msg) → Hears bytes ms None → length bytes < INPUT_BYTES
 short bytes ms h =
     let b : Brings h.front h.all None = subst (λ (v : Option WireFault). Brings h.front h.all v) (no_wire (judged h.all).fault h.wire h.first) h.brings in
     omega (arith, b.0, ap length h.whole, length-append h.front h.rest, ap length (h.stops refl))
@@ -158,3 +161,80 @@ held_once before [] x y a b = a ∙ sym b
 held_once before (bytes ∷ more) x y (ms, f, h, a) (ns, g, k, b) =
     let same : ms ≡ ns = (once bytes ms ns f g h k).0 in
     held_once (last_held before (ats ms)) more x y a (subst (λ (l : List Msg). HoldsAfter (last_held before (ats l)) more y) (sym same) b)
+
+-- ---- a front of bytes rebuilds a front
+
+good_begins : (before xs ys : List Msg) → (later : List Msg) × ((judged_after before (xs ++ ys)).good ≡ (judged_after before xs).good ++ later)
+unfolding judged_after
+good_begins before [] ys = ((judged_after before ys).good, refl)
+good_begins before (m ∷ xs) ys =
+    elim (place_fault before m) as (λ o. (later : List Msg) × ((judged_by o m (judged_after (before ++ m ∷ []) (xs ++ ys))).good ≡ (judged_by o m (judged_after (before ++ m ∷ []) xs)).good ++ later)) [
+      | None ↦ let r = good_begins (before ++ m ∷ []) xs ys in (r.0, ap (λ (l : List Msg). m ∷ l) r.1)
+      | Some f ↦ ([], refl)
+    ]
+
+good_front : (ms ns xs ys : List Msg) → Begins xs ys → ms ≡ (judged xs).good → ns ≡ (judged ys).good → Begins ms ns
+unfolding Begins
+good_front ms ns xs ys (more, e) m n =
+    let r = good_begins [] xs more in
+    (r.0, n ∙ ap (λ (l : List Msg). (judged l).good) e ∙ r.1 ∙ ap (λ (l : List Msg). l ++ r.0) (sym m))
+
+-- the later hearing stops no earlier
+front_later : (bytes more : List ℕ) (ms ns : List Msg) (f g : Option StreamFault) (a : Hears bytes ms f) (b : Hears (bytes ++ more) ns g) → length a.front ≤ length b.front → Begins ms ns
+front_later bytes more ms ns f g a b h =
+    let x : List ℕ = drop (length a.front) b.front in
+    let whole : bytes ++ more ≡ a.front ++ (a.rest ++ more) = ap (λ (l : List ℕ). l ++ more) a.whole ∙ append_assoc a.front a.rest more in
+    let s : b.front ≡ a.front ++ x = split (bytes ++ more) a.front b.front (a.rest ++ more) b.rest whole b.whole h in
+    let brought : Brings (a.front ++ x) b.all b.wire = subst (λ (l : List ℕ). Brings l b.all b.wire) s b.brings in
+    good_front ms ns a.all b.all (brings_more a.front x a.all b.all a.wire b.wire a.brings brought) a.good b.good
+
+-- it stops at a fault that the front has
+front_same : (bytes more : List ℕ) (ms ns : List Msg) (f g : Option StreamFault) (a : Hears bytes ms f) (b : Hears (bytes ++ more) ns g) → length b.front < length a.front → Begins ms ns
+unfolding Begins
+front_same bytes more ms ns f g a b h =
+    let within : length a.front ≤ length bytes = omega (arith, ap length a.whole, length-append a.front a.rest) in
+    elim g as (λ o. g ≡ o → (later : List Msg) × (ns ≡ ms ++ later)) [
+      | None ↦ λ i. absurd (omega (arith, h, within, ap length b.whole, length-append bytes more, length-append b.front b.rest, ap length (b.stops i)))
+      | Some x ↦ λ i.
+          let inside : Hears bytes ns g = record {
+            front = b.front;
+            rest = drop (length b.front) bytes;
+            whole = split (bytes ++ more) b.front bytes b.rest more b.whole refl (omega (arith, h, within));
+            stops = λ n. cc;
+            all = b.all;
+            wire = b.wire;
+            brings = b.brings;
+            good = b.good;
+            first = b.first;
+          } in
+          ([], sym (once bytes ms ns f g a inside).0 ∙ sym (append-nil ms))
+    ] refl
+
+pub fronts : (bytes more : List ℕ) (ms ns : List Msg) (f g : Option StreamFault) → Hears bytes ms f → Hears (bytes ++ more) ns g → (later : List Rebuilt) × (ats ns ≡ ats ms ++ later)
+unfolding Begins
+fronts bytes more ms ns f g a b =
+    let r : Begins ms ns = elim (cases_lt (length b.front) (length a.front)) [
+      | inl lt ↦ front_same bytes more ms ns f g a b lt
+      | inr le ↦ front_later bytes more ms ns f g a b le
+    ] in
+    (ats_after ms r.0, ap ats r.1 ∙ ats_more [] ms r.0)
+
+-- ---- each list of bytes is heard
+
+pub heard_some : (bytes : List ℕ) → AllByRecursion (λ b. b < 256) bytes → (ms : List Msg) × (f : Option StreamFault) × Hears bytes ms f
+heard_some bytes h =
+    let r = brings-some bytes h in (
+      (judged r.0).good,
+      option_or (judged r.0).fault (option_map Wire r.1),
+      record {
+        front = bytes;
+        rest = [];
+        whole = sym (append-nil bytes);
+        stops = λ _. refl;
+        all = r.0;
+        wire = r.1;
+        brings = r.2;
+        good = refl;
+        first = refl;
+      },
+    )

@@ -6,8 +6,8 @@ use Rattle.ty_wire.specs.declared.message.Msg.{Msg}
 use Rattle.ty_client.specs.declared.fault.StreamFault.{StreamFault}
 use Rattle.ty_client.specs.Places.{Judged, judged_after}
 use Rattle.ty_client.specs.Rebuilt.{Rebuilt, ats_after, pong_of, pongs}
-use Rattle.ty_client.specs.Stands.{Staged, staged}
-use Rattle.ty_client.specs.Steps.{stage_fault, next_stage, stage_ats, IsJudged}
+use Rattle.ty_client.specs.Rebuild.{Staged, staged}
+use Rattle.ty_client.specs.steps.Stage.{stage_fault, next_stage, stage_ats, IsJudged}
 use Rattle.ty_client.proofs.Judging.{judged_none, judged_push, judged_stop, ats_none, ats_push, staged_push, pongs_push}
 
 -- the messages done, which stand behind those before, were all good

@@ -1,10 +1,12 @@
 -- The messages of a talk are in their places, and what they rebuild at each crumb end is the world of its number.
-use Rattle.std.proofs.Common.{◌≡◌, ℕ, ◌+◌, ◌^◌, ◌<◌, ◌≤◌, Bool, true, false, cond, List, [], ◌∷◌, ◌++◌, length, map, flat_map, refl, sym, ap, subst, ◌∙◌, arith, append_assoc, append-nil, length-append, lt-ltb, ne_eqb}
+use Rattle.std.proofs.Common.{◌≡◌, ℕ, ◌+◌, ◌<◌, ◌≤◌, Bool, true, false, cond, List, [], ◌∷◌, ◌++◌, length, take, map, flat_map, refl, sym, ap, subst, ◌∙◌, arith, append_assoc, append-nil, length-append, lt-ltb, ne_eqb}
 use Rattle.std.specs.Prelude.{Option, None, Some, unwrap_or, if◌then◌else◌}
 use Rattle.std.specs.Option.{option_or}
 use Rattle.std.specs.List.{All, AllByRecursion, fold, filter}
 use Rattle.std.proofs.lemmas.List.Elements.{All-from_recursion}
 use Rattle.std.proofs.lemmas.List.Sums.{fold-append}
+use Rattle.std.proofs.Math.Seq.{take-append_seam}
+use Rattle.ty_base.specs.declared.limits.TheConstants.{INPUT_BYTES}
 use Rattle.ty_base.specs.Feed.{Pairs, World, changed}
 use Rattle.ty_base.specs.Statuses.{same_status}
 use Rattle.ty_base.proofs.Pairs.{same_statuses}
@@ -12,22 +14,23 @@ use Rattle.ty_base.specs.declared.entry.Entry.{Entry}
 use Rattle.ty_base.specs.declared.delta.Delta.{Delta}
 use Rattle.ty_base.specs.declared.status.Status.{Status}
 use Rattle.ty_base.specs.declared.status.Status.TheVariants.{Wait}
-use Rattle.ty_wire.specs.Cutting.{cut_deltas}
-use Rattle.ty_wire.specs.Talk.{kvs_messages, status_messages, group, snapshot, world_after, deltas_between, status_change, first_group, groups_after, opening, talk, is_no_ping, Rise, IsTalk}
+use Rattle.ty_wire.specs.Cut.{cut_deltas}
+use Rattle.ty_wire.specs.Talk.{kvs_messages, status_messages, group_messages, snapshot, world_after, deltas_between, status_change, first_group, groups_after, opening, talk, is_no_ping, Rise, IsTalk}
 use Rattle.ty_wire.specs.declared.message.Msg.{Msg}
 use Rattle.ty_wire.specs.declared.message.Msg.TheVariants.{ClientHello, ServerHello, Kvs, Status as StatusMsg, Crumb, Ping, Pong}
 use Rattle.ty_wire.specs.Wire.{IsWire, frame, frames}
-use Rattle.ty_wire.specs.Stream.{Reads, Begins}
+use Rattle.ty_wire.specs.Whole.{whole_in}
+use Rattle.ty_wire.specs.Stream.{Reads}
 use Rattle.ty_wire.proofs.Parts.{joined}
-use Rattle.ty_wire.proofs.Back.{reads-whole, reads-front}
+use Rattle.ty_wire.proofs.Whole.{reads-whole, reads-in, whole-all, whole-front}
 use Rattle.ty_wire.proofs.Short.{server_hello-fits}
 use Rattle.ty_wire.proofs.Utf8.{is_wire}
 use Rattle.ty_client.specs.declared.fault.StreamFault.{StreamFault}
-use Rattle.ty_client.specs.Places.{later_fault, opening_fault, rising_fault, crumb_fault, fault_at, next_frame, latest, status_in, number_in, is_status, has_status, Judged, judged_by, judged_after, judged}
+use Rattle.ty_client.specs.Places.{later_fault, opening_fault, rising_fault, crumb_fault, place_fault, next_frame, latest, told_status, told_number, is_status, has_status, Judged, judged_by, judged_after, judged}
 use Rattle.ty_client.specs.Rebuilt.{Rebuilt, deltas_in, rebuilt_map, at_of, ats_after, ats}
-use Rattle.ty_client.specs.Stands.{Staged, staged}
+use Rattle.ty_client.specs.Rebuild.{Staged, staged}
 use Rattle.ty_client.specs.Heard.{Hears}
-use Rattle.ty_client.specs.Worlds.{IsAbove, IsRising, IsWorldOf, rebuilt_after}
+use Rattle.ty_client.specs.Worlds.{rebuilt_after}
 use Rattle.ty_client.proofs.Judging.{judged_one, judged_none, staged_push, ats_more}
 use Rattle.ty_client.proofs.Snapshots.{between, snapshot_back}
 
@@ -38,7 +41,7 @@ InPlace : Option Status → Bool → Option ℕ → List Msg → Type 0
 InPlace status fresh number [] = Unit {0}
 InPlace status fresh number (m ∷ ms) =
     ((k : ℕ) → later_fault k status fresh number m ≡ None)
-    × InPlace (option_or (status_in m) status) (unwrap_or (is_status m) fresh) (option_or (number_in m) number) ms
+    × InPlace (option_or (told_status m) status) (unwrap_or (is_status m) fresh) (option_or (told_number m) number) ms
 
 abbrev found_at : Option Status → Pairs → Msg → List Rebuilt
 found_at status pairs (Crumb n) = record { number = n; status = unwrap_or status Wait; pairs = pairs } ∷ []
@@ -51,14 +54,14 @@ found_at status pairs (Pong ts) = []
 
 found : Option Status → Pairs → List Msg → List Rebuilt
 found status pairs [] = []
-found status pairs (m ∷ ms) = found_at status pairs m ++ found (option_or (status_in m) status) (fold changed pairs (deltas_in m)) ms
+found status pairs (m ∷ ms) = found_at status pairs m ++ found (option_or (told_status m) status) (fold changed pairs (deltas_in m)) ms
 
 abbrev StagePlaced : List Msg → Staged → Type 0
 StagePlaced ms s = InPlace s.status s.fresh s.number ms
 
-later : (before : List Msg) (m : Msg) → 0 < length before → fault_at before m ≡ later_fault (next_frame before) (latest status_in before) (has_status before) (latest number_in before) m
+later : (before : List Msg) (m : Msg) → 0 < length before → place_fault before m ≡ later_fault (next_frame before) (latest told_status before) (has_status before) (latest told_number before) m
 later before m h =
-    ap (λ (b : Bool). if b then opening_fault m else later_fault (next_frame before) (latest status_in before) (has_status before) (latest number_in before) m)
+    ap (λ (b : Bool). if b then opening_fault m else later_fault (next_frame before) (latest told_status before) (has_status before) (latest told_number before) m)
     (ne_eqb (length before + 1) 1 (λ e. omega (arith, h, e)))
 
 judged_placed : (before ms : List Msg) → 0 < length before → StagePlaced ms (staged before) → judged_after before ms ≡ record { good = ms; fault = None }
@@ -69,7 +72,7 @@ judged_placed before (m ∷ ms) h p =
     ∙ ap (λ (f : Option StreamFault). judged_by f m (judged_after (before ++ m ∷ []) ms)) (later before m h ∙ p.0 (next_frame before))
     ∙ ap (judged_by None m) (judged_placed (before ++ m ∷ []) ms (omega (arith, length-append before (m ∷ []))) (subst (StagePlaced ms) (sym (staged_push before m)) p.1))
 
-at_found : (before : List Msg) (m : Msg) → at_of before m ≡ found_at (latest status_in before) (rebuilt_map before) m
+at_found : (before : List Msg) (m : Msg) → at_of before m ≡ found_at (latest told_status before) (rebuilt_map before) m
 at_found before (Crumb n) = refl
 at_found before (ClientHello version host) = refl
 at_found before (ServerHello version) = refl
@@ -78,12 +81,12 @@ at_found before (StatusMsg s) = refl
 at_found before (Ping ts) = refl
 at_found before (Pong ts) = refl
 
-ats_found : (before ms : List Msg) → ats_after before ms ≡ found (latest status_in before) (rebuilt_map before) ms
+ats_found : (before ms : List Msg) → ats_after before ms ≡ found (latest told_status before) (rebuilt_map before) ms
 unfolding ats_after found
 ats_found before [] = refl
 ats_found before (m ∷ ms) =
     ap (λ (l : List Rebuilt). l ++ ats_after (before ++ m ∷ []) ms) (at_found before m)
-    ∙ ap (λ (l : List Rebuilt). found_at (latest status_in before) (rebuilt_map before) m ++ l) (
+    ∙ ap (λ (l : List Rebuilt). found_at (latest told_status before) (rebuilt_map before) m ++ l) (
     ats_found (before ++ m ∷ []) ms
     ∙ ap (λ (s : Staged). found s.status s.pairs ms) (staged_push before m))
 
@@ -123,14 +126,14 @@ end_found status None pairs n rest = refl
 end_found status (Some t) pairs n rest = refl
 
 group_placed : (status told : Option Status) (number : Option ℕ) (ds : List Delta) (n : ℕ) (s : Status) (rest : List Msg) → option_or told status ≡ Some s → ((k : ℕ) → rising_fault k number n ≡ None)
-    → InPlace (Some s) false (Some n) rest → InPlace status false number (group ds told n ++ rest)
+    → InPlace (Some s) false (Some n) rest → InPlace status false number (group_messages ds told n ++ rest)
 group_placed status told number ds n s rest e r p =
     subst (λ (l : List Msg). InPlace status false number l) (sym (append_assoc (kvs_messages ds) (status_messages told ++ Crumb n ∷ []) rest))
     (kvs_placed status number (cut_deltas ds) ((status_messages told ++ Crumb n ∷ []) ++ rest) (end_placed status told number n s rest e r p))
 
 -- the deltas lead to the world that n entries leave, and so does the status
 group_found : (es : List Entry) (status told : Option Status) (pairs : Pairs) (ds : List Delta) (n : ℕ) (rest : List Msg) → option_or told status ≡ Some (world_after es n).status → fold changed pairs ds ≡ (world_after es n).pairs
-    → found status pairs (group ds told n ++ rest) ≡ rebuilt_after es n ∷ found (Some (world_after es n).status) (world_after es n).pairs rest
+    → found status pairs (group_messages ds told n ++ rest) ≡ rebuilt_after es n ∷ found (Some (world_after es n).status) (world_after es n).pairs rest
 group_found es status told pairs ds n rest e f =
     ap (found status pairs) (append_assoc (kvs_messages ds) (status_messages told ++ Crumb n ∷ []) rest)
     ∙ kvs_found status pairs (cut_deltas ds) ((status_messages told ++ Crumb n ∷ []) ++ rest)
@@ -229,40 +232,18 @@ good_front : (before ms more : List Msg) → (judged_after before (ms ++ more)).
 unfolding judged_after
 good_front before [] more h = refl
 good_front before (m ∷ ms) more h =
-    elim (fault_at before m) as (λ f. (judged_by f m (judged_after (before ++ m ∷ []) (ms ++ more))).fault ≡ None → judged_by f m (judged_after (before ++ m ∷ []) ms) ≡ record { good = m ∷ ms; fault = None }) [
+    elim (place_fault before m) as (λ f. (judged_by f m (judged_after (before ++ m ∷ []) (ms ++ more))).fault ≡ None → judged_by f m (judged_after (before ++ m ∷ []) ms) ≡ record { good = m ∷ ms; fault = None }) [
       | None ↦ λ g. ap (judged_by None m) (good_front (before ++ m ∷ []) ms more g)
       | Some f ↦ λ g. cc
     ] h
-
-above_front : (n : ℕ) (xs ys : List Rebuilt) → IsAbove n (xs ++ ys) → IsAbove n xs
-above_front n [] ys h = tt
-above_front n (x ∷ xs) ys h = (h.0, above_front x.number xs ys h.1)
-
-rising_front : (xs ys : List Rebuilt) → IsRising (xs ++ ys) → IsRising xs
-rising_front [] ys h = tt
-rising_front (x ∷ xs) ys h = above_front x.number xs ys h
-
-all_front : (P : Rebuilt → Type 0) (xs ys : List Rebuilt) → AllByRecursion P (xs ++ ys) → AllByRecursion P xs
-all_front P [] ys h = tt
-all_front P (x ∷ xs) ys h = (h.0, all_front P xs ys h.1)
-
--- the worlds of numbers that rise
-
-numbers_rise : (es : List Entry) (n : ℕ) (ns : List ℕ) (most : ℕ) → Rise n ns most → IsAbove n (map (rebuilt_after es) ns)
-numbers_rise es n [] most r = tt
-numbers_rise es n (k ∷ ns) most r = (r.0, numbers_rise es k ns most r.1)
 
 pub within : (n : ℕ) (ns : List ℕ) (most : ℕ) → Rise n ns most → n ≤ most
 within n [] most r = r
 within n (k ∷ ns) most r = omega (arith, r.0, within k ns most r.1)
 
-are_worlds : (es : List Entry) (n : ℕ) (ns : List ℕ) → Rise n ns (length es) → AllByRecursion (IsWorldOf es) (map (rebuilt_after es) (n ∷ ns))
-are_worlds es n [] r = ((r, refl), tt)
-are_worlds es n (k ∷ ns) r = ((within n (k ∷ ns) (length es) r, refl), are_worlds es k ns r.1)
-
 -- ---- bytes
 
-hears : (bytes rest : List ℕ) (ms : List Msg) → length bytes < 2 ^ 40 → Reads bytes ms rest → judged ms ≡ record { good = ms; fault = None } → Hears bytes ms None
+hears : (bytes rest : List ℕ) (ms : List Msg) → length bytes < INPUT_BYTES → Reads bytes ms rest → judged ms ≡ record { good = ms; fault = None } → Hears bytes ms None
 hears bytes rest ms l r g = record {
   front = bytes;
   rest = [];
@@ -282,29 +263,31 @@ pub record Front (all : List Msg) (bytes : List ℕ) : Type 0 where
   pub whole : all ≡ ms ++ unheard
   pub heard : Hears bytes ms None
 
-front_of : (all : List Msg) (bytes more : List ℕ) → (judged all).fault ≡ None → AllByRecursion IsWire all → length bytes < 2 ^ 40 → bytes ++ more ≡ frames all → Front all bytes
+front_of : (all : List Msg) (bytes more : List ℕ) → (judged all).fault ≡ None → AllByRecursion IsWire all → length bytes < INPUT_BYTES → bytes ++ more ≡ frames all → Front all bytes
 front_of all bytes more good w l e =
-    let f : Begins bytes all = reads-front all bytes more w e in
+    let n : ℕ = length bytes in
+    let within : n ≤ length (frames all) = omega (arith, ap length e, length-append bytes more) in
+    let r : (rest : List ℕ) × Reads (take n (frames all)) (whole_in n all) rest = reads-in all n w within in
+    let same : take n (frames all) ≡ bytes = ap (take n) (sym e) ∙ take-append_seam bytes more in
+    let later : (later : List Msg) × (whole_in (length (frames all)) all ≡ whole_in n all ++ later) = whole-front all n (length (frames all)) within in
+    let whole : all ≡ whole_in n all ++ later.0 = sym (whole-all all) ∙ later.1 in
     record {
-      ms = f.read;
-      unheard = f.later;
-      whole = f.whole;
-      heard = hears bytes f.rest f.read l f.reads (good_front [] f.read f.later (ap (λ (x : List Msg). (judged x).fault) (sym f.whole) ∙ good));
+      ms = whole_in n all;
+      unheard = later.0;
+      whole = whole;
+      heard = hears bytes r.0 (whole_in n all) l (subst (λ (b : List ℕ). Reads b (whole_in n all) r.0) same r.1) (good_front [] (whole_in n all) later.0 (ap (λ (x : List Msg). (judged x).fault) (sym whole) ∙ good));
     }
 
-pub front_rebuilds : (es : List Entry) (e0 : ℕ) (ns : List ℕ) (all : List Msg) (bytes more : List ℕ) → Rise e0 ns (length es) → Rebuilds es e0 ns all → AllByRecursion IsWire all → length bytes < 2 ^ 40 → bytes ++ more ≡ frames all
-    → (ms : List Msg) × Hears bytes ms None × IsRising (ats ms) × All (λ a. IsWorldOf es a) (ats ms)
-front_rebuilds es e0 ns all bytes more r b w l e =
+-- what it rebuilds are the first worlds
+pub first_worlds : (es : List Entry) (e0 : ℕ) (ns : List ℕ) (all : List Msg) (bytes more : List ℕ) → Rebuilds es e0 ns all → AllByRecursion IsWire all → length bytes < INPUT_BYTES → bytes ++ more ≡ frames all
+    → (ms : List Msg) × (k : ℕ) × Hears bytes ms None × (ats ms ≡ take k (map (rebuilt_after es) (e0 ∷ ns)))
+first_worlds es e0 ns all bytes more b w l e =
     let f : Front all bytes = front_of all bytes more (ap (λ (j : Judged). j.fault) b.good) w l e in
     let later : List Rebuilt = ats_after f.ms f.unheard in
-    let split : map (rebuilt_after es) (e0 ∷ ns) ≡ ats f.ms ++ later = sym b.worlds ∙ ap ats f.whole ∙ ats_more [] f.ms f.unheard in (
-      f.ms,
-      f.heard,
-      rising_front (ats f.ms) later (subst IsRising split (numbers_rise es e0 ns (length es) r)),
-      All-from_recursion _ _ (all_front (IsWorldOf es) (ats f.ms) later (subst (AllByRecursion (IsWorldOf es)) split (are_worlds es e0 ns r))),
-    )
+    let split : map (rebuilt_after es) (e0 ∷ ns) ≡ ats f.ms ++ later = sym b.worlds ∙ ap ats f.whole ∙ ats_more [] f.ms f.unheard in
+    (f.ms, length (ats f.ms), f.heard, sym (take-append_seam (ats f.ms) later) ∙ ap (take (length (ats f.ms))) (sym split))
 
-pub whole_rebuilds : (es : List Entry) (e0 : ℕ) (ns : List ℕ) (all : List Msg) → Rebuilds es e0 ns all → AllByRecursion IsWire all → length (frames all) < 2 ^ 40 → Hears (frames all) all None × (ats all ≡ map (rebuilt_after es) (e0 ∷ ns))
+pub whole_rebuilds : (es : List Entry) (e0 : ℕ) (ns : List ℕ) (all : List Msg) → Rebuilds es e0 ns all → AllByRecursion IsWire all → length (frames all) < INPUT_BYTES → Hears (frames all) all None × (ats all ≡ map (rebuilt_after es) (e0 ∷ ns))
 whole_rebuilds es e0 ns all b w l = (hears (frames all) [] all l (reads-whole all w) b.good, b.worlds)
 
 -- the hello alone
@@ -320,7 +303,7 @@ hello_rebuilds : ats hello ≡ []
 unfolding ats_after
 hello_rebuilds = refl
 
-pub hello_heard : (bytes more : List ℕ) → length bytes < 2 ^ 40 → bytes ++ more ≡ frame (ServerHello 1) → (ms : List Msg) × Hears bytes ms None × (ats ms ≡ [])
+pub hello_heard : (bytes more : List ℕ) → length bytes < INPUT_BYTES → bytes ++ more ≡ frame (ServerHello 1) → (ms : List Msg) × Hears bytes ms None × (ats ms ≡ [])
 hello_heard bytes more l e =
     let f : Front hello bytes = front_of hello bytes more hello_good (is_wire (ServerHello 1) tt (server_hello-fits 1 (omega arith)), tt) l (e ∙ sym (append-nil (frame (ServerHello 1)))) in
     (f.ms, f.heard, none_in_front (ats f.ms) (ats_after f.ms f.unheard) (sym (ats_more [] f.ms f.unheard) ∙ ap ats (sym f.whole) ∙ hello_rebuilds))

@@ -3,14 +3,15 @@ use Rattle.std.specs.Prelude.{◌≡◌, ℕ, List, [], ◌∷◌, ◌++◌, Opt
 use Rattle.std.specs.Option.{option_or}
 use Rattle.ty_wire.specs.Stream.{Brings}
 use Rattle.ty_wire.specs.declared.message.Msg.{Msg}
-use Rattle.ty_wire.specs.declared.splitting.WireFault.{WireFault}
+use Rattle.ty_wire.specs.declared.fault.WireFault.{WireFault}
 use Rattle.ty_client.specs.declared.fault.StreamFault.{StreamFault}
 use Rattle.ty_client.specs.declared.fault.StreamFault.TheVariants.{Wire}
 use Rattle.ty_client.specs.Places.{judged}
 use Rattle.ty_client.specs.Rebuilt.{Rebuilt, ats, last_held}
 
--- the messages before the first fault of the bytes, and that fault: a message out of its place, or else the wire's,
--- which comes behind all messages. A front of the bytes shows it, and what comes behind changes nothing
+-- the messages before the first fault of the bytes, and that fault: a message out of its place, or
+-- else the wire's, which comes behind all messages. A front of the bytes shows it, and what comes
+-- behind changes nothing
 pub record Hears (bytes : List ℕ) (ms : List Msg) (fault : Option StreamFault) : Type 0 where
   pub front : List ℕ
   pub rest : List ℕ
@@ -22,7 +23,8 @@ pub record Hears (bytes : List ℕ) (ms : List Msg) (fault : Option StreamFault)
   pub good : ms ≡ (judged all).good
   pub first : fault ≡ option_or (judged all).fault (option_map Wire wire)
 
--- a connection with crumb ends leaves what it rebuilt at its last one, and another leaves what was held before
+-- a connection with crumb ends leaves what it rebuilt at its last one, and another leaves what was
+-- held before
 abbrev pub HoldsAfter : Option Rebuilt → List (List ℕ) → Option Rebuilt → Type 0
 HoldsAfter before [] held = held ≡ before
 HoldsAfter before (bytes ∷ more) held =

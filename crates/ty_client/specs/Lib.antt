@@ -1,11 +1,8 @@
-pub mod Limits
 pub mod Places
 pub mod Rebuilt
 pub mod Heard
-pub mod Stands
-pub mod Texts
-pub mod Steps
-pub mod Giving
-pub mod Following
-pub mod Pieces
+pub mod Rebuild
+pub mod Text
+pub mod Followed
 pub mod Worlds
+pub mod steps

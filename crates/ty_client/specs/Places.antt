@@ -1,11 +1,12 @@
--- Where the messages of one connection may stand. Each is judged by the messages before it: first a server hello; then
--- groups of KVs messages, at most one status and a crumb end, of which the first group needs its status; pings anywhere.
+-- Where the messages of one connection may stand. Each is judged by the messages before it: first a
+-- server hello; then groups of KVs messages, at most one status and a crumb end, of which the first
+-- group needs its status; pings anywhere.
 use Rattle.std.specs.Prelude.{ℕ, ◌+◌, ◌==◌, Bool, true, false, List, [], ◌∷◌, ◌++◌, length, Option, None, Some, nat_lt, unwrap_or, if◌then◌else◌}
 use Rattle.std.specs.List.{fold}
 use Rattle.std.specs.Option.{option_or}
 use Rattle.ty_base.specs.declared.status.Status.{Status}
 use Rattle.ty_wire.specs.declared.message.Msg.{Msg}
-use Rattle.ty_wire.specs.declared.message.Msg.TheVariants.{ClientHello, ServerHello, Kvs, Status as StatusMsg, Crumb, Ping, Pong}
+use Rattle.ty_wire.specs.declared.message.Msg.TheVariants.{ServerHello, Kvs, Status as StatusMsg, Crumb, Ping}
 use Rattle.ty_client.specs.declared.fault.StreamFault.{StreamFault}
 use Rattle.ty_client.specs.declared.fault.StreamFault.TheVariants.{Version, Order, NotRising}
 
@@ -13,33 +14,19 @@ use Rattle.ty_client.specs.declared.fault.StreamFault.TheVariants.{Version, Orde
 abbrev pub latest : {A : Type 0} → (Msg → Option A) → List Msg → Option A
 latest f ms = fold (λ found m. option_or (f m) found) None ms
 
-abbrev pub status_in : Msg → Option Status
-status_in (StatusMsg s) = Some s
-status_in (ClientHello version host) = None
-status_in (ServerHello version) = None
-status_in (Kvs ds) = None
-status_in (Crumb n) = None
-status_in (Ping ts) = None
-status_in (Pong ts) = None
+abbrev pub told_status : Msg → Option Status
+told_status (StatusMsg s) = Some s
+told_status _ = None
 
-abbrev pub number_in : Msg → Option ℕ
-number_in (Crumb n) = Some n
-number_in (ClientHello version host) = None
-number_in (ServerHello version) = None
-number_in (Kvs ds) = None
-number_in (StatusMsg s) = None
-number_in (Ping ts) = None
-number_in (Pong ts) = None
+abbrev pub told_number : Msg → Option ℕ
+told_number (Crumb n) = Some n
+told_number _ = None
 
 -- of a status and a crumb end: whether it is the status
 abbrev pub is_status : Msg → Option Bool
 is_status (StatusMsg s) = Some true
 is_status (Crumb n) = Some false
-is_status (ClientHello version host) = None
-is_status (ServerHello version) = None
-is_status (Kvs ds) = None
-is_status (Ping ts) = None
-is_status (Pong ts) = None
+is_status _ = None
 
 -- a status has come since the last crumb end, or since the hello where there was none
 abbrev pub has_status : List Msg → Bool
@@ -51,12 +38,7 @@ next_frame before = length before + 1
 
 abbrev pub opening_fault : Msg → Option StreamFault
 opening_fault (ServerHello version) = if version == 1 then None else Some (Version version)
-opening_fault (ClientHello version host) = Some (Order 1)
-opening_fault (Kvs ds) = Some (Order 1)
-opening_fault (StatusMsg s) = Some (Order 1)
-opening_fault (Crumb n) = Some (Order 1)
-opening_fault (Ping ts) = Some (Order 1)
-opening_fault (Pong ts) = Some (Order 1)
+opening_fault _ = Some (Order 1)
 
 -- a crumb end's number is above that of the last one
 abbrev pub rising_fault : ℕ → Option ℕ → ℕ → Option StreamFault
@@ -68,21 +50,20 @@ abbrev pub crumb_fault : ℕ → Option Status → Option ℕ → ℕ → Option
 crumb_fault frame None had n = Some (Order frame)
 crumb_fault frame (Some s) had n = rising_fault frame had n
 
--- the fault of a later frame, by the last status, whether it has come since the last crumb end, and that end's number
+-- the fault of a later frame, by the last status, whether it has come since the last crumb end, and
+-- that end's number
 abbrev pub later_fault : ℕ → Option Status → Bool → Option ℕ → Msg → Option StreamFault
 later_fault frame status fresh had (Ping ts) = None
 later_fault frame status fresh had (Kvs ds) = if fresh then Some (Order frame) else None
 later_fault frame status fresh had (StatusMsg s) = if fresh then Some (Order frame) else None
 later_fault frame status fresh had (Crumb n) = crumb_fault frame status had n
-later_fault frame status fresh had (ServerHello version) = Some (Order frame)
-later_fault frame status fresh had (ClientHello version host) = Some (Order frame)
-later_fault frame status fresh had (Pong ts) = Some (Order frame)
+later_fault frame status fresh had _ = Some (Order frame)
 
 -- the fault of a message behind those before it, if it isn't in its place
-abbrev pub fault_at : List Msg → Msg → Option StreamFault
-fault_at before m =
+abbrev pub place_fault : List Msg → Msg → Option StreamFault
+place_fault before m =
     if next_frame before == 1 then opening_fault m
-    else later_fault (next_frame before) (latest status_in before) (has_status before) (latest number_in before) m
+    else later_fault (next_frame before) (latest told_status before) (has_status before) (latest told_number before) m
 
 -- the messages before the first that isn't in its place, and its fault
 pub record Judged : Type 0 where
@@ -95,7 +76,7 @@ judged_by (Some f) m later = record { good = []; fault = Some f }
 
 unfoldable pub judged_after : List Msg → List Msg → Judged
 judged_after before [] = record { good = []; fault = None }
-judged_after before (m ∷ ms) = judged_by (fault_at before m) m (judged_after (before ++ m ∷ []) ms)
+judged_after before (m ∷ ms) = judged_by (place_fault before m) m (judged_after (before ++ m ∷ []) ms)
 
 abbrev pub judged : List Msg → Judged
 judged ms = judged_after [] ms

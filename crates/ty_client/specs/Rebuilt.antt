@@ -6,8 +6,8 @@ use Rattle.ty_base.specs.declared.delta.Delta.{Delta}
 use Rattle.ty_base.specs.declared.status.Status.{Status}
 use Rattle.ty_base.specs.declared.status.Status.TheVariants.{Wait}
 use Rattle.ty_wire.specs.declared.message.Msg.{Msg}
-use Rattle.ty_wire.specs.declared.message.Msg.TheVariants.{ClientHello, ServerHello, Kvs, Status as StatusMsg, Crumb, Ping, Pong}
-use Rattle.ty_client.specs.Places.{latest, status_in}
+use Rattle.ty_wire.specs.declared.message.Msg.TheVariants.{Kvs, Crumb, Ping, Pong}
+use Rattle.ty_client.specs.Places.{latest, told_status}
 
 -- what is rebuilt at a crumb end
 pub record Rebuilt : Type 0 where
@@ -17,12 +17,7 @@ pub record Rebuilt : Type 0 where
 
 abbrev pub deltas_in : Msg → List Delta
 deltas_in (Kvs ds) = ds
-deltas_in (ClientHello version host) = []
-deltas_in (ServerHello version) = []
-deltas_in (StatusMsg s) = []
-deltas_in (Crumb n) = []
-deltas_in (Ping ts) = []
-deltas_in (Pong ts) = []
+deltas_in _ = []
 
 -- all deltas of the messages, in order, on the empty map
 abbrev pub rebuilt_map : List Msg → Pairs
@@ -30,16 +25,11 @@ rebuilt_map ms = fold changed [] (flat_map deltas_in ms)
 
 -- at crumb end n, by the messages before it
 abbrev pub rebuilt_at : List Msg → ℕ → Rebuilt
-rebuilt_at before n = record { number = n; status = unwrap_or (latest status_in before) Wait; pairs = rebuilt_map before }
+rebuilt_at before n = record { number = n; status = unwrap_or (latest told_status before) Wait; pairs = rebuilt_map before }
 
 abbrev pub at_of : List Msg → Msg → List Rebuilt
 at_of before (Crumb n) = rebuilt_at before n ∷ []
-at_of before (ClientHello version host) = []
-at_of before (ServerHello version) = []
-at_of before (Kvs ds) = []
-at_of before (StatusMsg s) = []
-at_of before (Ping ts) = []
-at_of before (Pong ts) = []
+at_of before _ = []
 
 -- what is rebuilt at each crumb end among messages, which stand behind those before
 unfoldable pub ats_after : List Msg → List Msg → List Rebuilt
@@ -57,12 +47,7 @@ last_held held (a ∷ more) = last_held (Some a) more
 -- the answer to each ping
 abbrev pub pong_of : Msg → List Msg
 pong_of (Ping ts) = Pong ts ∷ []
-pong_of (ClientHello version host) = []
-pong_of (ServerHello version) = []
-pong_of (Kvs ds) = []
-pong_of (StatusMsg s) = []
-pong_of (Crumb n) = []
-pong_of (Pong ts) = []
+pong_of _ = []
 
 abbrev pub pongs : List Msg → List Msg
 pongs ms = flat_map pong_of ms

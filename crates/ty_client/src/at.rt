@@ -4,7 +4,8 @@ use std::marker::Model;
 use ty_base::{NoMemory, Status};
 use ty_map::Pairs;
 
-/// What a client has rebuilt at a crumb end. Keys have at most 1,024 bytes and values at most 1,048,576.
+/// What a client has rebuilt at a crumb end. Keys have at most `KEY_BYTES` and values at most
+/// `VALUE_BYTES`.
 #[derive(Drop)]
 pub struct At {
     /// The breadcrumb's number.
@@ -15,13 +16,14 @@ pub struct At {
 
 impl Model for At {
     ghost use Rattle.ty_client.specs.Rebuilt.{Rebuilt};
-    ghost use Rattle.ty_client.specs.Limits.{HasSmallPairs};
+    ghost use Rattle.std.specs.Prelude.{◌≡◌, true};
+    ghost use Rattle.ty_base.specs.Limits.{pairs_fit};
 
     ghost Value = { Rebuilt };
 
     ghost view = { λ a. record { number = a.number; status = a.status; pairs = a.pairs } };
 
-    ghost invariant = { λ a. HasSmallPairs a.pairs };
+    ghost invariant = { λ a. pairs_fit a.pairs ≡ true };
 }
 
 impl At {

@@ -1,27 +1,27 @@
 // A client's rebuilding over connections, one after another, each in any pieces.
-ghost use Rattle.std.specs.Prelude.{◌≡◌, ◌≤◌, ◌++◌, ◌∷◌, List, ℕ, Option, [], length, drop, true, false, None, Some, option_map, IfOk, OnOk, OnErr};
+ghost use Rattle.std.specs.Prelude.{◌≡◌, ◌≤◌, ◌++◌, ◌∷◌, List, ℕ, Option, [], length, drop, true, false, None, Some, option_map, IfOk, OnSome, OnOk, OnErr};
 ghost use Rattle.std.specs.Option.{option_copied, option_or};
 ghost use Rattle.ty_wire.specs.Wire.{frame};
 ghost use Rattle.ty_wire.specs.Stream.{Reads};
 ghost use Rattle.ty_wire.specs.declared.message.Msg.{Msg as Message};
 ghost use Rattle.ty_wire.specs.declared.message.Msg.TheVariants.{ClientHello};
-ghost use Rattle.ty_client.specs.Rebuilt.{Rebuilt, last_held};
+ghost use Rattle.ty_client.specs.Rebuilt.{last_held};
 ghost use Rattle.ty_client.specs.Heard.{Holds};
-ghost use Rattle.ty_client.specs.Stands.{Stands, Brought, IsOpen};
-ghost use Rattle.ty_client.specs.Steps.{HasHistory, IsHeard};
+ghost use Rattle.ty_client.specs.Rebuild.{HasHistory, RebuildStands, Brought, IsGoodSoFar};
+ghost use Rattle.ty_client.specs.steps.Stage.{IsHeard};
 ghost use Rattle.ty_client.specs.declared.fault.StreamFault.{StreamFault as Fault};
 
 use crate::at::{At, Ats};
 use crate::fault::StreamFault;
-use crate::hearing::{Heard, hear_all};
+use crate::heard::{Heard, hear_all};
 use crate::stage::Stage;
 use std::alloc::Global;
 use std::marker::Model;
-use ty_base::{NoMemory, Text};
+use ty_base::{HOST_BYTES, NoMemory, Text};
 use ty_wire::{Frames, Msg, WireFault, short_messages_fit, write};
 
-/// What a client makes of the bytes of its connections. It keeps the map that it holds, the map of the connection
-/// that is being rebuilt, the unfinished frame, and what is to be sent.
+/// What a client makes of the bytes of its connections. It keeps the map that it holds, the map of
+/// the connection that is being rebuilt, the unfinished frame, and what is to be sent.
 #[derive(Drop)]
 pub struct Rebuild {
     alloc: Global,
@@ -34,10 +34,9 @@ pub struct Rebuild {
 }
 
 impl Model for Rebuild {
-    ghost use Rattle.ty_client.specs.Stands.{Rebuilding};
-    ghost use Rattle.ty_client.specs.Steps.{HasHistory};
+    ghost use Rattle.ty_client.specs.Rebuild.{HasHistory, RebuildHeld};
 
-    ghost Value = { Rebuilding };
+    ghost Value = { RebuildHeld };
 
     ghost view = { λ r. record { unread = r.unread; stage = r.stage; held = r.held; up = r.up.items; fault = r.fault; spent = r.spent } };
 
@@ -47,7 +46,7 @@ impl Model for Rebuild {
 impl Rebuild {
     /// No connection so far, and no bytes of the first one.
     pub fn new(alloc: Global) -> Rebuild
-        ensures stands { Stands result [] [] [] }
+        ensures stands { RebuildStands result [] [] [] }
         ensures fault { result.fault ≡ None }
         ensures up { result.up ≡ [] }
     {
@@ -62,10 +61,12 @@ impl Rebuild {
         }
     }
 
-    /// Queues the client hello, with version 1. After want of memory each call but `lost` answers want of memory.
+    /// Queues the client hello, with version 1. After want of memory each call but `lost` answers
+    /// want of memory.
     pub fn hello(&mut self, alloc: Global, host: &Text) -> Result<(), NoMemory>
-        requires { length host.now ≤ 253 }
-        ensures ok { OnOk result (self.new ≡ record self.old { up = self.old.up ++ frame (ClientHello 1 host.now) }) }
+        requires { length host.now ≤ HOST_BYTES }
+        ensures ok { OnOk result (self.new
+            ≡ record self.old { up = self.old.up ++ frame (ClientHello 1 host.now) }) }
         ensures err { OnErr result (self.new ≡ record self.old { spent = true }) }
         ensures spent { self.old.spent ≡ true → OnOk result ⊥ }
     {
@@ -98,14 +99,18 @@ impl Rebuild {
         self.up.truncate(left);
     }
 
-    /// Takes the next bytes of the connection, in any pieces. It gives what is rebuilt at each crumb end that comes,
-    /// and the first fault of all bytes of the connection so far. After a fault each call gives that fault and
-    /// nothing else, and after want of memory each call answers want of memory, until `lost`.
+    /// Takes the next bytes of the connection, in any pieces. It gives what is rebuilt at each
+    /// crumb end that comes, and the first fault of all bytes of the connection so far. After a
+    /// fault each call gives that fault and nothing else, and after want of memory each call
+    /// answers want of memory, until `lost`.
     pub fn feed(&mut self, alloc: Global, bytes: &[u8]) -> Result<Heard, NoMemory>
-        ensures heard { IfOk result (λ h. (before : List (List ℕ)) (so_far : List ℕ) (ms : List Message) → Stands self.old before so_far ms
+        ensures heard { IfOk result (λ h. (before : List (List ℕ)) (so_far : List ℕ) (ms : List Message)
+            → RebuildStands self.old before so_far ms
             → Brought self.old self.new before so_far bytes.now ms h.ats) }
+        ensures held { IfOk result (λ h. self.new.held ≡ last_held self.old.held h.ats) }
         ensures fault { IfOk result (λ h. h.fault ≡ self.new.fault) }
-        ensures stays { IfOk result (λ h. (f : Fault) → self.old.fault ≡ Some f → (h.fault ≡ Some f) × (h.ats ≡ [])) }
+        ensures stays { IfOk result (λ h. (f : Fault) → self.old.fault ≡ Some f
+            → (h.fault ≡ Some f) × (h.ats ≡ [])) }
         ensures short { OnErr result (self.new.spent ≡ true) }
         ensures kept { OnErr result (self.new.held ≡ self.old.held) }
         ensures spent { self.old.spent ≡ true → OnOk result ⊥ }
@@ -138,10 +143,16 @@ impl Rebuild {
         }
     }
 
-    /// The connection is gone, and the next one begins with its frame 1. What it left unfinished and what was queued
-    /// is dropped, and what is held stays.
+    /// The connection is gone, and the next one begins with its frame 1. What it left unfinished
+    /// and what was queued is dropped, and what is held stays.
     pub fn lost(&mut self)
-        ensures stands { (connections : List (List ℕ)) → Holds connections self.old.held → Stands self.new connections [] [] }
+        ensures stands { (before : List (List ℕ)) (bytes : List ℕ) (ms : List Message)
+            → RebuildStands self.old before bytes ms
+            → RebuildStands self.new (before ++ bytes ∷ []) [] [] }
+        ensures begins { (connections : List (List ℕ)) → Holds connections self.old.held
+            → RebuildStands self.new connections [] [] }
+        ensures fault { self.new.fault ≡ None }
+        ensures unspent { self.new.spent ≡ false }
         ensures held { self.new.held ≡ self.old.held }
         ensures up { self.new.up ≡ [] }
     {
@@ -155,23 +166,29 @@ impl Rebuild {
     /// What was rebuilt at the last crumb end of the last connection that had one.
     pub fn held(&self) -> Option<&At>
         ensures value { option_copied result ≡ self.now.held }
-        ensures holds { (before : List (List ℕ)) (bytes : List ℕ) (ms : List Message) → Stands self.now before bytes ms
+        ensures holds { (before : List (List ℕ)) (bytes : List ℕ) (ms : List Message)
+            → RebuildStands self.now before bytes ms
             → Holds (before ++ bytes ∷ []) self.now.held }
     {
         self.held.as_ref()
     }
 
-    /// How many bytes the unfinished frame has so far, where there is no fault.
+    /// How many bytes the unfinished frame has so far. After a fault there are none.
     pub fn left(&self) -> u64
-        ensures { (before : List (List ℕ)) (bytes rest : List ℕ) (ms : List Message) → Stands self.now before bytes ms
+        ensures rest { (before : List (List ℕ)) (bytes rest : List ℕ) (ms : List Message)
+            → RebuildStands self.now before bytes ms
             → self.now.fault ≡ None → Reads bytes ms rest → result ≡ length rest }
+        ensures fault { OnSome self.now.fault (result ≡ 0) }
     {
-        self.unread.left()
+        match self.fault {
+            None => self.unread.left(),
+            Some(_) => 0,
+        }
     }
 }
 
 fn append_hello(alloc: Global, host: &Text, up: &mut Vec<u8>) -> Result<(), NoMemory>
-    requires { length host.now ≤ 253 }
+    requires { length host.now ≤ HOST_BYTES }
     ensures ok { OnOk result (up.new.items ≡ up.old.items ++ frame (ClientHello 1 host.now)) }
     ensures err { OnErr result (up.new.items ≡ up.old.items) }
 {
@@ -194,7 +211,8 @@ fn hear_and_keep(
 ) -> Result<Heard, NoMemory>
     requires { HasHistory false unread.old }
     ensures history { OnOk result (HasHistory false unread.new) }
-    ensures heard { IfOk result (λ h. (bytes : List ℕ) (ms : List Message) → IsOpen unread.old stage.old bytes ms
+    ensures heard { IfOk result (λ h. (bytes : List ℕ) (ms : List Message)
+        → IsGoodSoFar unread.old stage.old bytes ms
         → IsHeard unread.new stage.new bytes piece.now ms h.ats h.fault up.old.items up.new.items) }
     ensures held { IfOk result (λ h. held.new ≡ last_held held.old h.ats) }
     ensures kept { OnErr result (held.new ≡ held.old) }
@@ -213,7 +231,8 @@ fn hear(
 ) -> Result<Heard, NoMemory>
     requires { HasHistory false unread.old }
     ensures history { OnOk result (HasHistory false unread.new) }
-    ensures heard { IfOk result (λ h. (bytes : List ℕ) (ms : List Message) → IsOpen unread.old stage.old bytes ms
+    ensures heard { IfOk result (λ h. (bytes : List ℕ) (ms : List Message)
+        → IsGoodSoFar unread.old stage.old bytes ms
         → IsHeard unread.new stage.new bytes piece.now ms h.ats h.fault up.old.items up.new.items) }
 {
     let got = unread.feed(alloc, piece)?;

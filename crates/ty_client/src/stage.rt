@@ -1,15 +1,14 @@
 // What is kept of the messages of a connection.
-ghost use Rattle.std.specs.Prelude.{◌≡◌, ◌+◌, ◌<◌, ◌^◌, ◌++◌, [], true, false, IfOk, OnOk, None, option_map, unwrap_or};
+ghost use Rattle.std.specs.Prelude.{◌≡◌, ◌+◌, ◌<◌, ◌^◌, ◌++◌, [], true, false, IfOk, OnOk, None, unwrap_or};
 ghost use Rattle.std.specs.Option.{option_or};
 ghost use Rattle.std.specs.List.{fold};
 ghost use Rattle.ty_base.specs.Feed.{changed as changed_by};
-ghost use Rattle.ty_wire.specs.Limits.{IsWithinLimits, delta_fits};
+ghost use Rattle.ty_base.specs.Limits.{deltas_fit, pairs_fit};
 ghost use Rattle.ty_wire.specs.Wire.{IsWire, frames};
-ghost use Rattle.ty_client.specs.Limits.{HasSmallPairs};
-ghost use Rattle.ty_client.specs.Places.{later_fault as later, opening_fault as opening, rising_fault as rising, crumb_fault as crumb_end_fault, status_in, number_in, is_status};
+ghost use Rattle.ty_client.specs.Places.{later_fault as later, opening_fault as opening, crumb_fault as crumb_end_fault, told_status, told_number, is_status};
 ghost use Rattle.ty_client.specs.Rebuilt.{deltas_in, pong_of};
-ghost use Rattle.ty_client.specs.Stands.{Staged};
-ghost use Rattle.ty_client.specs.Steps.{stage_fault, next_stage, stage_ats};
+ghost use Rattle.ty_client.specs.Rebuild.{Staged};
+ghost use Rattle.ty_client.specs.steps.Stage.{stage_fault, next_stage, stage_ats};
 
 use crate::at::{At, Ats};
 use crate::fault::StreamFault;
@@ -33,14 +32,15 @@ pub(crate) struct Stage {
 }
 
 impl Model for Stage {
-    ghost use Rattle.ty_client.specs.Stands.{Staged};
-    ghost use Rattle.ty_client.specs.Limits.{HasSmallPairs};
+    ghost use Rattle.ty_client.specs.Rebuild.{Staged};
+    ghost use Rattle.std.specs.Prelude.{◌≡◌, true};
+    ghost use Rattle.ty_base.specs.Limits.{pairs_fit};
 
     ghost Value = { Staged };
 
     ghost view = { λ s. record { frame = s.frame; status = s.status; fresh = s.fresh; number = s.number; pairs = s.pairs } };
 
-    ghost invariant = { λ s. HasSmallPairs s.pairs };
+    ghost invariant = { λ s. pairs_fit s.pairs ≡ true };
 }
 
 impl Stage {
@@ -79,7 +79,8 @@ impl Stage {
         }
     }
 
-    // Takes in a message that is in its place: what is rebuilt at a crumb end goes to `ats`, a ping's answer to `up`.
+    // Takes in a message that is in its place: what is rebuilt at a crumb end goes to `ats`, a
+    // ping's answer to `up`.
     pub(crate) fn hear(
         &mut self,
         alloc: Global,
@@ -186,7 +187,7 @@ fn crumb_fault(
 }
 
 fn status_after(status: Option<Status>, msg: &Msg) -> Option<Status>
-    ensures { result ≡ option_or (status_in msg.now) status }
+    ensures { result ≡ option_or (told_status msg.now) status }
 {
     match msg {
         Msg::Status(status) => Some(*status),
@@ -205,7 +206,7 @@ fn fresh_after(fresh: bool, msg: &Msg) -> bool
 }
 
 fn number_after(number: Option<u64>, msg: &Msg) -> Option<u64>
-    ensures { result ≡ option_or (number_in msg.now) number }
+    ensures { result ≡ option_or (told_number msg.now) number }
 {
     match msg {
         Msg::Crumb { n } => Some(*n),
@@ -228,9 +229,9 @@ fn answer(alloc: Global, msg: &Msg, up: &mut Vec<u8>) -> Result<(), NoMemory>
 
 fn pairs_after(alloc: Global, pairs: &Pairs, msg: &Msg) -> Result<Pairs, NoMemory>
     requires wire { IsWire msg.now }
-    requires small { HasSmallPairs pairs.now }
+    requires small { pairs_fit pairs.now ≡ true }
     ensures pairs { IfOk result (λ p. p ≡ fold changed_by pairs.now (deltas_in msg.now)) }
-    ensures small { IfOk result (λ p. HasSmallPairs p) }
+    ensures small { IfOk result (λ p. pairs_fit p ≡ true) }
 {
     match msg {
         Msg::Kvs(deltas) => changed_all(alloc, pairs, deltas.as_slice()),
@@ -240,10 +241,10 @@ fn pairs_after(alloc: Global, pairs: &Pairs, msg: &Msg) -> Result<Pairs, NoMemor
 
 // The kinds of the deltas aren't checked against the map.
 fn changed_all(alloc: Global, pairs: &Pairs, deltas: &[Delta]) -> Result<Pairs, NoMemory>
-    requires limits { IsWithinLimits deltas.now }
-    requires small { HasSmallPairs pairs.now }
+    requires limits { deltas_fit deltas.now ≡ true }
+    requires small { pairs_fit pairs.now ≡ true }
     ensures pairs { IfOk result (λ p. p ≡ fold changed_by pairs.now deltas.now) }
-    ensures small { IfOk result (λ p. HasSmallPairs p) }
+    ensures small { IfOk result (λ p. pairs_fit p ≡ true) }
 {
     let mut staged = pairs.copy()?;
     for delta in deltas {

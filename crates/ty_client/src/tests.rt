@@ -12,32 +12,32 @@ const READY: &[u8] =
 // Where its frames end.
 const READY_ENDS: [usize; 7] = [0, 36, 80, 103, 181, 218, 241];
 
-const HELLO: &str = "{\"m\":\"server_hello\",\"version\":1}";
+const HELLO: &str = r#"{"m":"server_hello","version":1}"#;
 
-const RESYNC: &str = "{\"m\":\"status\",\"status\":\"resync\"}";
+const RESYNC: &str = r#"{"m":"status","status":"resync"}"#;
 
-const CRUMB_3: &str = "{\"m\":\"crumb\",\"n\":3}";
+const CRUMB_3: &str = r#"{"m":"crumb","n":3}"#;
 
-const NEW_A: &str = "{\"kvs\":[{\"key\":\"a\",\"type\":\"new\",\"value\":\"1\"}],\"m\":\"kvs\"}";
+const NEW_A: &str = r#"{"kvs":[{"key":"a","type":"new","value":"1"}],"m":"kvs"}"#;
 
-const NEW_B: &str = "{\"kvs\":[{\"key\":\"b\",\"type\":\"new\",\"value\":\"2\"}],\"m\":\"kvs\"}";
+const NEW_B: &str = r#"{"kvs":[{"key":"b","type":"new","value":"2"}],"m":"kvs"}"#;
 
-const NO_A: &str = "{\"kvs\":[{\"key\":\"a\",\"type\":\"deleted\"}],\"m\":\"kvs\"}";
+const NO_A: &str = r#"{"kvs":[{"key":"a","type":"deleted"}],"m":"kvs"}"#;
 
 // The frames of a realistic feed.
 const REALISTIC: [&str; 12] = [
-    "{\"m\":\"server_hello\",\"version\":1}",
-    "{\"m\":\"status\",\"status\":\"wait-for-ready\"}",
-    "{\"m\":\"crumb\",\"n\":0}",
-    "{\"m\":\"status\",\"status\":\"resync\"}",
-    "{\"m\":\"crumb\",\"n\":1}",
-    "{\"kvs\":[{\"key\":\"/calico/v1/Ready\",\"type\":\"new\",\"value\":\"true\"},{\"key\":\"/calico/v1/config/LogSeverityScreen\",\"type\":\"new\",\"value\":\"\\\"Info\\\"\"},{\"key\":\"/calico/v1/host/node-1/bird_ip\",\"type\":\"new\",\"value\":\"\\\"192.168.10.1\\\"\"},{\"key\":\"/calico/v1/host/node-2/bird_ip\",\"type\":\"new\",\"value\":\"\\\"192.168.10.2\\\"\"},{\"key\":\"/calico/v1/host/node-1/workload/k8s/default%2fweb-1/endpoint/eth0\",\"type\":\"new\",\"value\":\"{\\\"ipv4_nets\\\":[\\\"10.244.1.5/32\\\"],\\\"labels\\\":{\\\"app\\\":\\\"web\\\"},\\\"mac\\\":\\\"ee:ee:ee:ee:ee:ee\\\",\\\"name\\\":\\\"cali0a1b2c3d4e5\\\",\\\"profile_ids\\\":[\\\"kns.default\\\"],\\\"state\\\":\\\"active\\\"}\"},{\"key\":\"/calico/v1/policy/tier/default/policy/allow-web\",\"type\":\"new\",\"value\":\"{\\\"inbound_rules\\\":[{\\\"action\\\":\\\"allow\\\",\\\"dst_ports\\\":[80,\\\"8000:8080\\\"],\\\"protocol\\\":\\\"tcp\\\",\\\"src_selector\\\":\\\"role == 'client'\\\"}],\\\"order\\\":100,\\\"outbound_rules\\\":[{\\\"action\\\":\\\"allow\\\"}],\\\"selector\\\":\\\"app == 'web'\\\",\\\"types\\\":[\\\"ingress\\\",\\\"egress\\\"]}\"},{\"key\":\"/calico/v1/policy/profile/kns.default/labels\",\"type\":\"new\",\"value\":\"{\\\"pcns.name\\\":\\\"default\\\"}\"},{\"key\":\"/calico/v1/ipam/v4/pool/10.244.0.0-16\",\"type\":\"new\",\"value\":\"{\\\"cidr\\\":\\\"10.244.0.0/16\\\",\\\"masquerade\\\":true}\"}],\"m\":\"kvs\"}",
-    "{\"m\":\"status\",\"status\":\"in-sync\"}",
-    "{\"m\":\"crumb\",\"n\":2}",
-    "{\"kvs\":[{\"key\":\"/calico/v1/host/node-1/workload/k8s/default%2fweb-1/endpoint/eth0\",\"type\":\"deleted\"},{\"key\":\"/calico/v1/host/node-2/workload/k8s/default%2fweb-1/endpoint/eth0\",\"type\":\"new\",\"value\":\"{\\\"ipv4_nets\\\":[\\\"10.244.2.7/32\\\"],\\\"labels\\\":{\\\"app\\\":\\\"web\\\"},\\\"mac\\\":\\\"ee:ee:ee:ee:ee:ee\\\",\\\"name\\\":\\\"cali0a1b2c3d4e5\\\",\\\"profile_ids\\\":[\\\"kns.default\\\"],\\\"state\\\":\\\"active\\\"}\"}],\"m\":\"kvs\"}",
-    "{\"m\":\"crumb\",\"n\":3}",
-    "{\"kvs\":[{\"key\":\"/calico/v1/host/node-2/workload/k8s/default%2fweb-1/endpoint/eth0\",\"type\":\"deleted\"}],\"m\":\"kvs\"}",
-    "{\"m\":\"crumb\",\"n\":4}",
+    r#"{"m":"server_hello","version":1}"#,
+    r#"{"m":"status","status":"wait-for-ready"}"#,
+    r#"{"m":"crumb","n":0}"#,
+    r#"{"m":"status","status":"resync"}"#,
+    r#"{"m":"crumb","n":1}"#,
+    r#"{"kvs":[{"key":"/calico/v1/Ready","type":"new","value":"true"},{"key":"/calico/v1/config/LogSeverityScreen","type":"new","value":"\"Info\""},{"key":"/calico/v1/host/node-1/bird_ip","type":"new","value":"\"192.168.10.1\""},{"key":"/calico/v1/host/node-2/bird_ip","type":"new","value":"\"192.168.10.2\""},{"key":"/calico/v1/host/node-1/workload/k8s/default%2fweb-1/endpoint/eth0","type":"new","value":"{\"ipv4_nets\":[\"10.244.1.5/32\"],\"labels\":{\"app\":\"web\"},\"mac\":\"ee:ee:ee:ee:ee:ee\",\"name\":\"cali0a1b2c3d4e5\",\"profile_ids\":[\"kns.default\"],\"state\":\"active\"}"},{"key":"/calico/v1/policy/tier/default/policy/allow-web","type":"new","value":"{\"inbound_rules\":[{\"action\":\"allow\",\"dst_ports\":[80,\"8000:8080\"],\"protocol\":\"tcp\",\"src_selector\":\"role == 'client'\"}],\"order\":100,\"outbound_rules\":[{\"action\":\"allow\"}],\"selector\":\"app == 'web'\",\"types\":[\"ingress\",\"egress\"]}"},{"key":"/calico/v1/policy/profile/kns.default/labels","type":"new","value":"{\"pcns.name\":\"default\"}"},{"key":"/calico/v1/ipam/v4/pool/10.244.0.0-16","type":"new","value":"{\"cidr\":\"10.244.0.0/16\",\"masquerade\":true}"}],"m":"kvs"}"#,
+    r#"{"m":"status","status":"in-sync"}"#,
+    r#"{"m":"crumb","n":2}"#,
+    r#"{"kvs":[{"key":"/calico/v1/host/node-1/workload/k8s/default%2fweb-1/endpoint/eth0","type":"deleted"},{"key":"/calico/v1/host/node-2/workload/k8s/default%2fweb-1/endpoint/eth0","type":"new","value":"{\"ipv4_nets\":[\"10.244.2.7/32\"],\"labels\":{\"app\":\"web\"},\"mac\":\"ee:ee:ee:ee:ee:ee\",\"name\":\"cali0a1b2c3d4e5\",\"profile_ids\":[\"kns.default\"],\"state\":\"active\"}"}],"m":"kvs"}"#,
+    r#"{"m":"crumb","n":3}"#,
+    r#"{"kvs":[{"key":"/calico/v1/host/node-2/workload/k8s/default%2fweb-1/endpoint/eth0","type":"deleted"}],"m":"kvs"}"#,
+    r#"{"m":"crumb","n":4}"#,
 ];
 
 fn framed(alloc: Global, bodies: &[&str]) -> Result<Vec<u8>, Fail> {
@@ -233,16 +233,13 @@ fn a_hello_and_a_pong_go_up(rt: HostRuntime) -> Result<(), Fail> {
     let mut rebuild = Rebuild::new(alloc);
     let host = Text::of(alloc, "n1")?;
     rebuild.hello(alloc, &host)?;
-    let hello = framed(
-        alloc,
-        &["{\"host\":\"n1\",\"m\":\"client_hello\",\"version\":1}"],
-    )?;
+    let hello = framed(alloc, &[r#"{"host":"n1","m":"client_hello","version":1}"#])?;
     assert!(rt; rebuild.up() == hello.as_slice());
     rebuild.up_given(rebuild.up().len().min(3));
     assert_eq!(rt; rebuild.up().len(), 45);
-    let ping = &[HELLO, RESYNC, CRUMB_3, "{\"m\":\"ping\",\"ts\":7}"];
+    let ping = &[HELLO, RESYNC, CRUMB_3, r#"{"m":"ping","ts":7}"#];
     assert_eq!(rt; fed(alloc, &mut rebuild, ping)?, (1, None));
-    let pong = framed(alloc, &["{\"m\":\"pong\",\"ts\":7}"])?;
+    let pong = framed(alloc, &[r#"{"m":"pong","ts":7}"#])?;
     assert!(rt; rebuild.up().ends_with(&pong));
     Ok(())
 }
@@ -295,7 +292,7 @@ fn hurt_frame(alloc: Global, body: &str, hurt: Hurt) -> Result<Vec<u8>, Fail> {
         Hurt::TooLong => Ok(b"\x00\x80\x00\x01".to_vec(alloc)?),
         Hurt::NotJson => begun(alloc, "}", body),
         Hurt::Spaced => begun(alloc, "{ ", body),
-        Hurt::Misplaced => framed(alloc, &["{\"m\":\"pong\",\"ts\":1}"]),
+        Hurt::Misplaced => framed(alloc, &[r#"{"m":"pong","ts":1}"#]),
     }
 }
 
@@ -311,7 +308,8 @@ fn fault_of(hurt: Hurt, frame: u64) -> StreamFault {
     }
 }
 
-// Whether bytes with a hurt frame behind good ones bring the text of the good ones, and name the hurt one.
+// Whether bytes with a hurt frame behind good ones bring the text of the good ones, and name the
+// hurt one.
 fn hurt_shows(
     alloc: Global,
     before: &[&str],

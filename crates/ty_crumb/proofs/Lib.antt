@@ -1,4 +1,4 @@
-pub mod Growing
-pub mod Fits
-pub mod Pendings
-pub mod Standing
+pub mod Book
+pub mod Crumbs
+pub mod Limits
+pub mod PendingChanges

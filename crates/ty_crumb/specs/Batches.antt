@@ -4,11 +4,12 @@ use Rattle.std.specs.List.{fold, filter_map, count_by, list_all}
 use Rattle.ty_base.specs.declared.item.Item.{Item}
 use Rattle.ty_base.specs.declared.entry.Entry.{Entry}
 use Rattle.ty_base.specs.Feed.{World, after, is_closing, is_update, same_world, changes, firsts, key_of}
-use Rattle.ty_crumb.specs.Limits.{items_fit}
+use Rattle.ty_base.specs.Limits.{items_fit}
+use Rattle.ty_base.specs.declared.limits.TheConstants.{BATCH_UPDATES}
 
--- one batch: at most 100 updates, an item that is no update only as the last, and keys and values within the limits
+-- one batch: no more updates than close one, an item that is no update only as the last, and keys and values within the limits
 pub record IsBatch (items : List Item) : Type 0 where
-  pub few : count_by is_update items ≤ 100
+  pub few : count_by is_update items ≤ BATCH_UPDATES
   pub ends : list_all is_update (take (length items - 1) items) ≡ true
   pub fits : items_fit items ≡ true
 

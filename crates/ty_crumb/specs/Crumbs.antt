@@ -1,13 +1,13 @@
 -- Which entries a crumb stands for, what the next one adds, and the snapshot.
-use Rattle.std.specs.Prelude.{◌≡◌, ◌≢◌, ℕ, Bool, true, false, List, [], ◌∷◌, length, map, Some, None, refl}
+use Rattle.std.specs.Prelude.{◌≡◌, ◌≢◌, ℕ, Bool, true, false, List, [], ◌∷◌, length, map, Some, refl}
 use Rattle.std.specs.List.{fold}
 use Rattle.ty_base.specs.declared.entry.Entry.{Entry}
 use Rattle.ty_base.specs.declared.delta.Delta.{Delta}
-use Rattle.ty_base.specs.declared.delta.Kind.TheVariants.{New, Updated, Deleted}
+use Rattle.ty_base.specs.declared.delta.Kind.TheVariants.{New}
 use Rattle.ty_base.specs.Feed.{Pairs, World, replay}
 use Rattle.ty_crumb.specs.declared.crumb.Crumb.{Crumb}
-use Rattle.ty_crumb.specs.declared.next.Made.{Made}
-use Rattle.ty_crumb.specs.declared.next.Made.TheVariants.{Unchanged, Crumb as Next}
+use Rattle.ty_crumb.specs.declared.successor.Made.{Made}
+use Rattle.ty_crumb.specs.declared.successor.Made.TheVariants.{Unchanged, Crumb as Next}
 
 abbrev pub world_of : Crumb → World
 world_of c = record { pairs = c.pairs; status = c.status }
@@ -20,7 +20,7 @@ abbrev pub last_deltas : List Entry → List Delta
 last_deltas entries = fold (λ _ e. e.deltas) [] entries
 
 -- the crumb stands for these entries: their number, the last one's cut and deltas, and the world that they leave
-pub record Stands (crumb : Crumb) (entries : List Entry) : Type 0 where
+pub record CrumbStands (crumb : Crumb) (entries : List Entry) : Type 0 where
   pub number : crumb.number ≡ length entries
   pub cut : crumb.cut ≡ last_cut entries
   pub deltas : crumb.deltas ≡ last_deltas entries
@@ -44,18 +44,12 @@ entries_of (Next c) = record { cut = c.cut; status = c.status; deltas = c.deltas
 -- from the old entries to the new: nothing was made where they are the same, else the crumb stands for the new
 abbrev pub IsMadeFor : List Entry → List Entry → Made → Type 0
 IsMadeFor old new Unchanged = new ≡ old
-IsMadeFor old new (Next c) = Stands c new × (new ≢ old)
+IsMadeFor old new (Next c) = CrumbStands c new × (new ≢ old)
 
--- Deltas and the snapshot
+-- The snapshot
 
 abbrev pub added : List ℕ → List ℕ → Delta
 added k v = record { key = k; kind = New; value = Some v; told = refl }
-
-abbrev pub updated : List ℕ → List ℕ → Delta
-updated k v = record { key = k; kind = Updated; value = Some v; told = refl }
-
-abbrev pub deleted : List ℕ → Delta
-deleted k = record { key = k; kind = Deleted; value = None; told = refl }
 
 -- all pairs, in the order of their keys, each as new
 abbrev pub snapshot_of : Pairs → List Delta

@@ -1,3 +1,3 @@
 pub mod Batches
 pub mod Crumbs
-pub mod Limits
+pub mod steps

@@ -1,14 +1,14 @@
 // A breadcrumb.
 ghost use Rattle.std.specs.Prelude.{◌≡◌, ◌&&◌, true};
 ghost use Rattle.ty_map.specs.Ascending.{IsAscending};
-ghost use Rattle.ty_crumb.specs.Limits.{pairs_fit, deltas_fit};
+ghost use Rattle.ty_base.specs.Limits.{pairs_fit, deltas_fit};
 
 use std::alloc::Global;
 use ty_base::{Deltas, Status};
 use ty_map::Pairs;
 
-/// The whole map at one place of the feed, and what changed from the breadcrumb before. It never changes. Each key
-/// has at most 1,024 bytes and each value at most 1,048,576.
+/// The whole map at one place of the feed, and what changed from the breadcrumb before. It never changes. Keys have
+/// at most `KEY_BYTES` bytes and values at most `VALUE_BYTES`.
 #[derive(Drop)]
 pub struct Crumb {
     /// How many breadcrumbs came before.
@@ -27,11 +27,11 @@ pub struct Crumb {
 
 impl Crumb {
     ghost use Rattle.std.specs.Prelude.{◌≡◌, []};
-    ghost use Rattle.ty_crumb.specs.Crumbs.{Stands};
+    ghost use Rattle.ty_crumb.specs.Crumbs.{CrumbStands};
 
     /// Breadcrumb 0, which stands for no entries. It takes no memory.
     pub fn first(alloc: Global, at: u64) -> Crumb
-        ensures stands { Stands result [] }
+        ensures stands { CrumbStands result [] }
         ensures at { result.at ≡ at }
     {
         Crumb {

@@ -7,7 +7,8 @@ ghost use Rattle.ty_crumb.specs.Batches.{IsClosed, IsNextBatch, next_entries};
 /// Behind items that end at a closing, the next batch adds the entry that it makes over their fold to the
 /// book, or none where it leaves map and status equal.
 pub fn the_book_grows_by_the_next_batch()
-    ensures { (ended : Bool) (before batch : List Item) → IsClosed before → IsNextBatch ended before batch
+    ensures { (ended : Bool) (before batch : List Item) → IsClosed before
+        → IsNextBatch ended before batch
         → book ended (before ++ batch)
         ≡ book false before ++ next_entries (length before + length batch) (folded before) batch }
 {}

@@ -3,13 +3,13 @@
 
 mod crumb;
 mod laws;
-mod next;
 mod snapshots;
+mod successor;
 
 pub use crumb::Crumb;
 pub use laws::the_book_grows_by_the_next_batch;
-pub use next::{Made, next_crumb};
 pub use snapshots::snapshot;
+pub use successor::{Made, next_crumb};
 
 #[cfg(test)]
 mod tests;

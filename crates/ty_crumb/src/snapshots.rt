@@ -1,6 +1,6 @@
 // The snapshot of a breadcrumb.
 ghost use Rattle.std.specs.Prelude.{◌≡◌, true, IfOk};
-ghost use Rattle.ty_crumb.specs.Limits.{deltas_fit};
+ghost use Rattle.ty_base.specs.Limits.{deltas_fit};
 ghost use Rattle.ty_crumb.specs.Crumbs.{added, snapshot_of};
 
 use crate::crumb::Crumb;

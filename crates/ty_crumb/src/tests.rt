@@ -3,13 +3,16 @@ ghost use Rattle.std.specs.Prelude.{◌≡◌, ◌-◌, true, length, take, nat_
 ghost use Rattle.std.specs.List.{list_all, count_by};
 ghost use Rattle.ty_base.specs.Feed.{is_update as updates};
 ghost use Rattle.ty_base.specs.Passing.{item_passes};
-ghost use Rattle.ty_crumb.specs.Limits.{key_fits, value_fits, items_fit};
+ghost use Rattle.ty_base.specs.Limits.{key_fits, value_fits, items_fit};
 ghost use Rattle.ty_crumb.specs.Batches.{IsBatch};
 
 use crate::{Crumb, Made, next_crumb, snapshot};
 use std::alloc::Global;
 use std::test::Fail;
-use ty_base::{Deltas, Item, Kind, NoMemory, Text, print_u64, read_status, status_text};
+use ty_base::{
+    BATCH_UPDATES, Deltas, INPUT_BYTES, Item, KEY_BYTES, Kind, NoMemory, Text, VALUE_BYTES,
+    print_u64, read_status, status_text,
+};
 
 // An item as a word: `a=1` puts, `a-` removes, a status is its text, and any other word is a blank line.
 fn item(alloc: Global, word: &str) -> Result<Item, NoMemory> {
@@ -53,8 +56,9 @@ fn fits(item: &Item) -> bool
     ensures { result ≡ item_passes key_fits value_fits item.now }
 {
     match item {
-        Item::Put { key, value } => key.bytes().len() <= 1_024 && value.bytes().len() <= 1_048_576,
-        Item::Del { key } => key.bytes().len() <= 1_024,
+        Item::Put { key, value } => key.bytes().len() <= KEY_BYTES
+            && value.bytes().len() <= VALUE_BYTES,
+        Item::Del { key } => key.bytes().len() <= KEY_BYTES,
         Item::State(_) => true,
         Item::Mark => true,
     }
@@ -72,11 +76,11 @@ fn all_update(items: &[Item]) -> bool
     items.iter().all(|item| is_update(item))
 }
 
-// A batch is what `next_crumb` takes. Those of the tests have at most 100 items.
+// A batch is what `next_crumb` takes. Those of the tests have at most as many items as close one.
 fn is_batch(items: &[Item]) -> bool
     ensures { result ≡ true → IsBatch items.now }
 {
-    if items.len() > 100 {
+    if items.len() > BATCH_UPDATES {
         return false;
     }
     let front = items.len().saturating_sub(1);
@@ -86,7 +90,7 @@ fn is_batch(items: &[Item]) -> bool
 // The next breadcrumb, where the script is a batch.
 fn next(alloc: Global, last: &Crumb, script: &str, cut: u64) -> Result<Option<Made>, NoMemory> {
     let items = items(alloc, script)?;
-    if !is_batch(&items) || cut < last.cut || last.number >= 1 << 40 {
+    if !is_batch(&items) || cut < last.cut || last.number >= INPUT_BYTES as u64 {
         return Ok(None);
     }
     Ok(Some(next_crumb(alloc, last, &items, cut, 7)?))

@@ -1,1 +1,1 @@
-pub mod Changed
+pub mod Pending

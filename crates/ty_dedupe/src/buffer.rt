@@ -3,8 +3,7 @@ ghost use Rattle.std.specs.Prelude.{◌≡◌, ◌≤◌, List, [], ◌∷◌, �
 ghost use Rattle.std.specs.Str.{bytes_eq};
 ghost use Rattle.indexmap.specs.IndexMap.{insert_entry};
 ghost use Rattle.ty_base.specs.declared.item.Item.{Item};
-ghost use Rattle.ty_dedupe.specs.Pending.{pending, last_status, Stands};
-ghost use Rattle.ty_dedupe.specs.Entries.{shown};
+ghost use Rattle.ty_dedupe.specs.Pending.{pending, last_status, BufferStands, shown};
 
 use crate::drained::{Changes, Drained};
 use indexmap::IndexMap;
@@ -23,7 +22,7 @@ pub struct Buffer {
 impl Model for Buffer {
     ghost use Rattle.std.specs.Prelude.{ℕ, List, Option, map};
     ghost use Rattle.ty_base.specs.declared.status.Status.{Status};
-    ghost use Rattle.ty_dedupe.specs.Entries.{shown};
+    ghost use Rattle.ty_dedupe.specs.Pending.{shown};
 
     ghost Value = { List (List ℕ × Option (List ℕ)) × Option Status };
 
@@ -33,7 +32,7 @@ impl Model for Buffer {
 impl Buffer {
     /// A buffer in which nothing is pending. It takes no memory.
     pub fn new(alloc: Global) -> Buffer
-        ensures { Stands result [] }
+        ensures { BufferStands result [] }
     {
         Buffer {
             pairs: IndexMap::new(alloc),
@@ -44,7 +43,8 @@ impl Buffer {
     /// Takes in one more item. A key that is pending keeps its place, and a new one goes last; a status takes the
     /// place of the one before; a blank line does nothing. Want of memory leaves the buffer as it was.
     pub fn put(&mut self, alloc: Global, item: &Item) -> Result<(), NoMemory>
-        ensures ok { (items : List Item) → Stands self.old items → OnOk result (Stands self.new (items ++ item.now ∷ [])) }
+        ensures ok { (items : List Item) → BufferStands self.old items
+            → OnOk result (BufferStands self.new (items ++ item.now ∷ [])) }
         ensures err { OnErr result (self.new ≡ self.old) }
     {
         match item {
@@ -61,9 +61,11 @@ impl Buffer {
 
     /// Gives all that is pending, and empties the buffer. Want of memory leaves the buffer as it was.
     pub fn drain(&mut self, alloc: Global) -> Result<Drained, NoMemory>
-        ensures pairs { (items : List Item) → Stands self.old items → IfOk result (λ d. d.pairs ≡ pending items) }
-        ensures status { (items : List Item) → Stands self.old items → IfOk result (λ d. d.status ≡ last_status items) }
-        ensures emptied { OnOk result (Stands self.new []) }
+        ensures pairs { (items : List Item) → BufferStands self.old items
+            → IfOk result (λ d. d.pairs ≡ pending items) }
+        ensures status { (items : List Item) → BufferStands self.old items
+            → IfOk result (λ d. d.status ≡ last_status items) }
+        ensures emptied { OnOk result (BufferStands self.new []) }
         ensures err { OnErr result (self.new ≡ self.old) }
     {
         let pairs = taken(&mut self.pairs, alloc)?;
@@ -82,7 +84,8 @@ fn note(
     key: &Text,
     value: Option<Text>,
 ) -> Result<(), NoMemory>
-    ensures ok { OnOk result (map shown pairs.new.entries ≡ insert_entry bytes_eq (map shown pairs.old.entries) key.now value) }
+    ensures ok { OnOk result (map shown pairs.new.entries
+        ≡ insert_entry bytes_eq (map shown pairs.old.entries) key.now value) }
     ensures err { OnErr result (pairs.new.entries ≡ pairs.old.entries) }
 {
     let key = String::from_str(alloc, key.as_str())?;

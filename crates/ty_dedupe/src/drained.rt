@@ -24,8 +24,7 @@ impl Model for Changes {
 }
 
 impl Changes {
-    ghost use Rattle.std.specs.Prelude.{◌≡◌, ◌<◌, ◌==◌, length, slice_get, Some};
-    ghost use Rattle.std.specs.Option.{option_copied};
+    ghost use Rattle.std.specs.Prelude.{◌≡◌, ◌<◌, ◌==◌, length};
 
     /// A list that is handed over, without a copy.
     pub fn from_vec(list: Vec<(Text, Option<Text>)>) -> Changes

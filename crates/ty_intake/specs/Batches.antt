@@ -3,10 +3,10 @@ use Rattle.std.specs.Prelude.{ℕ, List, [], ◌∷◌, Bool, not, ◌&&◌, tak
 use Rattle.std.specs.List.{filter_map, take_while, slice_range, list_all}
 use Rattle.ty_base.specs.declared.item.Item.{Item}
 use Rattle.ty_base.specs.Feed.{closings, last_of}
-use Rattle.ty_values.specs.Items.{within_limits}
+use Rattle.ty_base.specs.Limits.{is_small}
 use Rattle.ty_intake.specs.Lines.{Feed, lines_of}
-use Rattle.ty_intake.specs.Saying.{item_by}
-use Rattle.ty_intake.specs.Faults.{line_fault, fault_of}
+use Rattle.ty_intake.specs.Line.{item_by}
+use Rattle.ty_intake.specs.Faults.{line_fault, feed_fault}
 use Rattle.ty_intake.specs.declared.batch.Closed.{Closed}
 
 abbrev pub is_good : List ℕ → Bool
@@ -18,7 +18,7 @@ items_of feed = filter_map item_by (take_while is_good (lines_of feed))
 
 -- the end closes a batch where no fault came before it
 abbrev pub is_whole : Feed → Bool
-is_whole feed = feed.ended && not (is_some (fault_of feed))
+is_whole feed = feed.ended && not (is_some (feed_fault feed))
 
 -- from each closing to the next
 abbrev pub batches_between : List Item → ℕ → List ℕ → List Closed
@@ -36,6 +36,6 @@ batches_of feed = batches (is_whole feed) (items_of feed)
 unfoldable pub closed_items : Feed → List Item
 closed_items feed = take (last_of 0 (closings (is_whole feed) (items_of feed))) (items_of feed)
 
--- each item of a batch has a key of at most 1,024 bytes and a value of at most 1,048,576, both UTF-8
+-- the keys and values of a batch are within the limits, and UTF-8
 abbrev pub batch_fits : Closed → Bool
-batch_fits b = list_all within_limits b.items
+batch_fits b = list_all is_small b.items

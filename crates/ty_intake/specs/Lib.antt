@@ -1,6 +1,6 @@
-pub mod Lines
-pub mod Saying
-pub mod Faults
 pub mod Batches
-pub mod Standing
-pub mod Steps
+pub mod Faults
+pub mod Held
+pub mod Line
+pub mod Lines
+pub mod steps

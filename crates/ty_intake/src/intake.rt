@@ -1,34 +1,32 @@
 // A feed that comes in pieces: its batches, and its first fault.
-ghost use Rattle.std.specs.Prelude.{◌≡◌, ◌<◌, ◌+◌, ◌++◌, ◌^◌, [], length, IfOk, OnOk, OnErr, None, Some, true, false};
+ghost use Rattle.std.specs.Prelude.{◌≡◌, ◌<◌, ◌≤◌, ◌+◌, ◌++◌, [], length, IfOk, OnOk, OnErr, None, Some, true, false};
 ghost use Rattle.std.specs.List.{list_all};
 ghost use Rattle.ty_intake.specs.Lines.{Feed, fed_with, ended_now, no_feed};
-ghost use Rattle.ty_intake.specs.Faults.{fault_of};
+ghost use Rattle.ty_base.specs.declared.limits.TheConstants.{LINE_BYTES};
+ghost use Rattle.ty_intake.specs.Faults.{feed_fault, left_of};
 ghost use Rattle.ty_intake.specs.Batches.{batches_of, batch_fits};
-ghost use Rattle.ty_intake.specs.Standing.{Stands};
-ghost use Rattle.ty_intake.specs.Steps.{IsSound, IsTaken, IsFed, IsFinished, ended_by, reading_of};
+ghost use Rattle.ty_intake.specs.Held.{IntakeStands};
+ghost use Rattle.ty_intake.specs.steps.Progress.{IsSoundProgress, IsFrontRead, IsPieceFed, IsFinished, fault_or_too_much, progress_of};
 ghost use Rattle.ty_intake.specs.declared.intake.IntakeFault.{IntakeFault as Fault};
 
 use crate::batch::{Batches, Items};
-use crate::pieces::{take_last, take_piece};
-use crate::reading::Reading;
+use crate::pieces::{read_end, read_piece};
+use crate::progress::Progress;
 use std::alloc::Global;
 use std::marker::Model;
 use std::mem;
-use ty_base::NoMemory;
-
-// So many bytes of a feed are read, and no more.
-const BYTES_LIMIT: u64 = (1 << 40) - 1;
+use ty_base::{INPUT_BYTES, NoMemory};
 
 /// Why no more batches come of a feed. Lines are counted from 1.
 #[derive(Clone, Copy, Debug, PartialEq, Eq)]
 pub enum IntakeFault {
-    /// The line has more than 8,388,608 bytes.
+    /// The line has more than `LINE_BYTES` bytes.
     LongLine { line: u64 },
     /// The line isn't UTF-8.
     BadUtf8 { line: u64 },
     /// The line is neither an update nor a status nor blank.
     BadLine { line: u64 },
-    /// Byte number 2^40 came.
+    /// Byte number `INPUT_BYTES` came.
     TooMuch,
 }
 
@@ -55,23 +53,33 @@ pub struct Intake {
 }
 
 impl Model for Intake {
-    ghost use Rattle.std.specs.Prelude.{◌≡◌, ◌≤◌, ◌<◌, ◌+◌, ◌^◌, length, true};
+    ghost use Rattle.std.specs.Prelude.{◌≡◌, ◌≤◌, ◌<◌, ◌+◌, length, true};
     ghost use Rattle.std.specs.List.{list_all};
-    ghost use Rattle.ty_values.specs.Items.{within_limits};
-    ghost use Rattle.ty_intake.specs.Standing.{Held};
+    ghost use Rattle.ty_base.specs.Limits.{is_small};
+    ghost use Rattle.ty_base.specs.declared.limits.TheConstants.{INPUT_BYTES, BATCH_UPDATES};
+    ghost use Rattle.ty_intake.specs.Held.{IntakeHeld};
 
-    ghost Value = { Held };
+    ghost Value = { IntakeHeld };
 
-    ghost view = { λ s. record { rest = s.rest.items; lines = s.lines; seen = s.seen; pending = s.pending; cut = s.cut; fault = s.fault; ended = s.ended; spent = s.spent } };
+    ghost view = { λ s. record {
+      rest = s.rest.items;
+      lines = s.lines;
+      seen = s.seen;
+      pending = s.pending;
+      cut = s.cut;
+      fault = s.fault;
+      ended = s.ended;
+      spent = s.spent;
+    } };
 
-    ghost invariant = { λ s. (s.seen < 2 ^ 40) × (s.lines ≤ s.seen) × (length s.pending < 100)
-        × (s.cut + length s.pending ≤ s.lines) × (list_all within_limits s.pending ≡ true) };
+    ghost invariant = { λ s. (s.seen < INPUT_BYTES) × (s.lines ≤ s.seen) × (length s.pending < BATCH_UPDATES)
+        × (s.cut + length s.pending ≤ s.lines) × (list_all is_small s.pending ≡ true) };
 }
 
 impl Intake {
     /// The feed has no bytes so far.
     pub fn new(alloc: Global) -> Intake
-        ensures { Stands result no_feed }
+        ensures { IntakeStands result no_feed }
     {
         Intake {
             rest: Vec::new(alloc),
@@ -89,12 +97,15 @@ impl Intake {
     /// far. After a fault each call gives that fault and no batch, and after the end nothing more is given. After
     /// want of memory each call answers want of memory.
     pub fn feed(&mut self, alloc: Global, piece: &[u8]) -> Result<Fed, NoMemory>
-        ensures stands { IfOk result (λ fed. (feed : Feed) → Stands self.old feed → Stands self.new (fed_with feed piece.now)) }
-        ensures closed { IfOk result (λ fed. (feed : Feed) → Stands self.old feed
+        ensures stands { IfOk result (λ fed. (feed : Feed) → IntakeStands self.old feed
+            → IntakeStands self.new (fed_with feed piece.now)) }
+        ensures closed { IfOk result (λ fed. (feed : Feed) → IntakeStands self.old feed
             → batches_of (fed_with feed piece.now) ≡ batches_of feed ++ fed.closed) }
-        ensures fault { IfOk result (λ fed. (feed : Feed) → Stands self.old feed → fed.fault ≡ fault_of (fed_with feed piece.now)) }
+        ensures fault { IfOk result (λ fed. (feed : Feed) → IntakeStands self.old feed
+            → fed.fault ≡ feed_fault (fed_with feed piece.now)) }
         ensures fits { IfOk result (λ fed. list_all batch_fits fed.closed ≡ true) }
-        ensures stays { IfOk result (λ fed. (f : Fault) → self.old.fault ≡ Some f → (fed.fault ≡ Some f) × (fed.closed ≡ [])) }
+        ensures stays { IfOk result (λ fed. (f : Fault) → self.old.fault ≡ Some f
+            → (fed.fault ≡ Some f) × (fed.closed ≡ [])) }
         ensures short { OnErr result (self.new.spent ≡ true) }
         ensures spent { self.old.spent ≡ true → OnOk result ⊥ }
     {
@@ -104,7 +115,7 @@ impl Intake {
         if self.ended || self.fault.is_some() {
             return Ok(self.nothing(alloc));
         }
-        match self.take(alloc, piece) {
+        match self.read_within_limit(alloc, piece) {
             Ok(closed) => Ok(Fed {
                 closed,
                 fault: self.fault,
@@ -119,11 +130,15 @@ impl Intake {
     /// The feed has ended: gives the batches that its last line and its end close, and the first fault. Where it has
     /// ended before, it gives no batch.
     pub fn end(&mut self, alloc: Global) -> Result<Fed, NoMemory>
-        ensures stands { IfOk result (λ fed. (feed : Feed) → Stands self.old feed → Stands self.new (ended_now feed)) }
-        ensures closed { IfOk result (λ fed. (feed : Feed) → Stands self.old feed → batches_of (ended_now feed) ≡ batches_of feed ++ fed.closed) }
-        ensures fault { IfOk result (λ fed. (feed : Feed) → Stands self.old feed → fed.fault ≡ fault_of (ended_now feed)) }
+        ensures stands { IfOk result (λ fed. (feed : Feed) → IntakeStands self.old feed
+            → IntakeStands self.new (ended_now feed)) }
+        ensures closed { IfOk result (λ fed. (feed : Feed) → IntakeStands self.old feed
+            → batches_of (ended_now feed) ≡ batches_of feed ++ fed.closed) }
+        ensures fault { IfOk result (λ fed. (feed : Feed) → IntakeStands self.old feed
+            → fed.fault ≡ feed_fault (ended_now feed)) }
         ensures fits { IfOk result (λ fed. list_all batch_fits fed.closed ≡ true) }
-        ensures stays { IfOk result (λ fed. (f : Fault) → self.old.fault ≡ Some f → (fed.fault ≡ Some f) × (fed.closed ≡ [])) }
+        ensures stays { IfOk result (λ fed. (f : Fault) → self.old.fault ≡ Some f
+            → (fed.fault ≡ Some f) × (fed.closed ≡ [])) }
         ensures short { OnErr result (self.new.spent ≡ true) }
         ensures spent { self.old.spent ≡ true → OnOk result ⊥ }
     {
@@ -146,6 +161,21 @@ impl Intake {
         }
     }
 
+    /// How many bytes the unfinished line has so far, at most `LINE_BYTES`; none after a fault or the end.
+    pub fn left(&self) -> u64
+        ensures value { (feed : Feed) → IntakeStands self.now feed → result ≡ left_of feed }
+        ensures within { (feed : Feed) → IntakeStands self.now feed → result ≤ LINE_BYTES }
+        ensures stopped { (f : Fault) → self.now.fault ≡ Some f → result ≡ 0 }
+    {
+        if self.ended {
+            return 0;
+        }
+        if self.fault.is_some() {
+            return 0;
+        }
+        self.rest.len() as u64
+    }
+
     // No batch, and the fault.
     fn nothing(&self, alloc: Global) -> Fed
         ensures closed { result.closed ≡ [] }
@@ -157,30 +187,32 @@ impl Intake {
         }
     }
 
-    fn take(&mut self, alloc: Global, piece: &[u8]) -> Result<Batches, NoMemory>
+    // The piece up to the limit of bytes, and whether there is more.
+    fn read_within_limit(&mut self, alloc: Global, piece: &[u8]) -> Result<Batches, NoMemory>
         requires open { self.old.ended ≡ false }
         requires good { self.old.fault ≡ None }
-        ensures { IfOk result (λ closed. IsFed self.old self.new piece.now closed) }
+        ensures { IfOk result (λ closed. IsPieceFed self.old self.new piece.now closed) }
     {
-        let room = (BYTES_LIMIT - self.seen) as usize;
+        let room = INPUT_BYTES - 1 - self.seen as usize;
         let (front, back) = piece.split_at(piece.len().min(room));
-        let closed = self.take_front(alloc, front)?;
+        let closed = self.read_front(alloc, front)?;
         self.fault = ended(self.fault, !back.is_empty());
         Ok(closed)
     }
 
-    fn take_front(&mut self, alloc: Global, front: &[u8]) -> Result<Batches, NoMemory>
-        requires { self.old.seen + length front.now < 2 ^ 40 }
-        ensures { IfOk result (λ closed. IsTaken self.old self.new front.now closed) }
+    // Bytes that are within the limit.
+    fn read_front(&mut self, alloc: Global, front: &[u8]) -> Result<Batches, NoMemory>
+        requires { self.old.seen + length front.now < INPUT_BYTES }
+        ensures { IfOk result (λ closed. IsFrontRead self.old self.new front.now closed) }
     {
-        let mut reading = self.reading(alloc);
-        let fault = take_piece(alloc, &mut self.rest, &mut reading, front)?;
-        let Reading {
+        let mut progress = self.progress(alloc);
+        let fault = read_piece(alloc, &mut self.rest, &mut progress, front)?;
+        let Progress {
             lines,
             pending,
             cut,
             closed,
-        } = reading;
+        } = progress;
         self.lines = lines;
         self.pending = pending;
         self.cut = cut;
@@ -189,25 +221,26 @@ impl Intake {
         Ok(closed)
     }
 
+    // The end, which ends the unfinished line and closes what is pending.
     fn finish(&mut self, alloc: Global) -> Result<Batches, NoMemory>
         requires open { self.old.ended ≡ false }
         requires good { self.old.fault ≡ None }
         ensures { IfOk result (λ closed. IsFinished self.old self.new closed) }
     {
-        let mut reading = self.reading(alloc);
-        self.fault = take_last(alloc, &self.rest, &mut reading)?;
+        let mut progress = self.progress(alloc);
+        self.fault = read_end(alloc, &self.rest, &mut progress)?;
         self.ended = true;
         self.rest = Vec::new(alloc);
-        Ok(reading.closed)
+        Ok(progress.closed)
     }
 
     // What is read so far, with no batch. What is pending is moved there.
-    fn reading(&mut self, alloc: Global) -> Reading
-        ensures reading { result ≡ reading_of self.old [] }
-        ensures sound { IsSound result }
+    fn progress(&mut self, alloc: Global) -> Progress
+        ensures progress { result ≡ progress_of self.old [] }
+        ensures sound { IsSoundProgress result }
         ensures rest { self.new ≡ record self.old { pending = [] } }
     {
-        Reading {
+        Progress {
             lines: self.lines,
             pending: mem::replace(&mut self.pending, Items::new(alloc)),
             cut: self.cut,
@@ -218,7 +251,7 @@ impl Intake {
 
 // The fault, where there is more than can be read.
 fn ended(fault: Option<IntakeFault>, over: bool) -> Option<IntakeFault>
-    ensures { result ≡ ended_by over fault }
+    ensures { result ≡ fault_or_too_much over fault }
 {
     match fault {
         None if over => Some(IntakeFault::TooMuch),

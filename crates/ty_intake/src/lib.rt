@@ -6,10 +6,10 @@ mod intake;
 mod laws;
 mod line;
 mod pieces;
-mod reading;
+mod progress;
 #[cfg(test)]
 mod tests;
 
 pub use batch::{Batches, Closed, Items};
 pub use intake::{Fed, Intake, IntakeFault};
-pub use laws::{batches_join, lines_are_cut};
+pub use laws::{batches_join, faults_stay, lines_are_cut};

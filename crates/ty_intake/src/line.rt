@@ -3,19 +3,16 @@ ghost use Rattle.std.specs.Prelude.{◌≡◌, IfOk, IsUtf8, codes, None, true, 
 ghost use Rattle.serde_json.specs.View.{view};
 ghost use Rattle.serde_json.specs.Find.{get};
 ghost use Rattle.ty_values.specs.Items.{said};
-ghost use Rattle.ty_intake.specs.Lines.{is_space as space, is_blank as blank};
-ghost use Rattle.ty_intake.specs.Saying.{said_by, said_by_json, said_in, by_members, update_in as update, is_absent_or_text};
-ghost use Rattle.ty_intake.specs.Steps.{IsTold};
+ghost use Rattle.ty_intake.specs.Lines.{is_space as space, is_blank_line as blank};
+ghost use Rattle.ty_intake.specs.Line.{said_by, said_by_json, said_in, by_members, update_in as update, is_absent_or_text};
+ghost use Rattle.ty_intake.specs.steps.Progress.{IsLineTold};
 
 use crate::intake::IntakeFault;
 use serde_json::{Category, Value};
 use std::alloc::Global;
 use std::str;
-use ty_base::{Item, NoMemory, Text, read_status};
+use ty_base::{Item, LINE_BYTES, NoMemory, Text, read_status};
 use ty_values::{Line, clean};
-
-/// The most bytes of a line.
-pub(crate) const LINE_LIMIT: usize = 8_388_608;
 
 /// The item of a line, if it has one, or its fault.
 #[derive(Drop)]
@@ -26,9 +23,9 @@ pub(crate) enum Told {
 
 /// What is told of a line with this number.
 pub(crate) fn read_line(alloc: Global, bytes: &[u8], line: u64) -> Result<Told, NoMemory>
-    ensures { IfOk result (λ told. IsTold line bytes.now told) }
+    ensures { IfOk result (λ told. IsLineTold line bytes.now told) }
 {
-    if bytes.len() > LINE_LIMIT {
+    if bytes.len() > LINE_BYTES {
         return Ok(Told::Fails(IntakeFault::LongLine { line }));
     }
     if !is_utf8(bytes) {
@@ -51,18 +48,18 @@ fn is_utf8(bytes: &[u8]) -> bool
 }
 
 // What a line says, or none where it is bad.
-#[tactic(auto, unfolding(crate::specs::Saying::said_by))]
+#[tactic(auto, unfolding(crate::specs::Line::said_by))]
 fn said_line(alloc: Global, line: &[u8]) -> Result<Option<Line>, NoMemory>
     ensures { IfOk result (λ o. option_map said o ≡ said_by line.now) }
 {
-    if is_blank(line) {
+    if is_blank_line(line) {
         return Ok(Some(Line::Blank));
     }
     json_line(alloc, line)
 }
 
 /// Whether a line has nothing but spaces, tabs and carriage returns.
-fn is_blank(line: &[u8]) -> bool
+fn is_blank_line(line: &[u8]) -> bool
     ensures { result ≡ blank line.now }
 {
     line.iter().all(|b| is_space(*b))
@@ -89,12 +86,12 @@ fn json_line(alloc: Global, line: &[u8]) -> Result<Option<Line>, NoMemory>
 
 // What a JSON value says: an update where there is a key, or a status, and not both. Its member for the value is
 // taken out.
-#[tactic(auto, unfolding(crate::specs::Saying::said_in))]
+#[tactic(auto, unfolding(crate::specs::Line::said_in))]
 fn line_in(alloc: Global, line: &mut Value) -> Result<Option<Line>, NoMemory>
     ensures { IfOk result (λ o. option_map said o ≡ said_in (view line.old)) }
 {
     let Some(key) = line.get("key") else {
-        return Ok(status_in(line));
+        return Ok(status_said(line));
     };
     if line.get("status").is_some() {
         return Ok(None);
@@ -109,8 +106,9 @@ fn line_in(alloc: Global, line: &mut Value) -> Result<Option<Line>, NoMemory>
 }
 
 // The status of a line without a key.
-fn status_in(line: &Value) -> Option<Line>
-    ensures { option_map said result ≡ by_members None (get (codes "status") (view line.now)) (view line.now) }
+fn status_said(line: &Value) -> Option<Line>
+    ensures { option_map said result
+        ≡ by_members None (get (codes "status") (view line.now)) (view line.now) }
 {
     let status = line.get("status")?.as_str()?;
     Some(Line::Status(read_status(status.as_bytes())?))

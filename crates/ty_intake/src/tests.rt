@@ -86,27 +86,52 @@ struct Case {
 const FEEDS: [Case; 14] = [
     Case { feed: "", told: "" },
     Case {
-        feed: "{\"key\":\"/calico/v1/Ready\",\"value\":true}\n{\"status\":\"in-sync\"}\n",
+        feed: r#"{"key":"/calico/v1/Ready","value":true}
+{"status":"in-sync"}
+"#,
         told: "put /calico/v1/Ready true\nin-sync\ncut 2\n",
     },
     Case {
-        feed: "{\"key\":\"/calico/v1/Ready\",\"value\":true}\n\n{\"key\":\"/calico/v1/Ready\",\"value\":true}\n\n",
+        feed: r#"{"key":"/calico/v1/Ready","value":true}
+
+{"key":"/calico/v1/Ready","value":true}
+
+"#,
         told: "put /calico/v1/Ready true\nmark\ncut 2\nput /calico/v1/Ready true\nmark\ncut 4\n",
     },
     Case {
-        feed: "{\"key\":\"/calico/v1/config/a\",\"value\":\"1\"}\n{\"key\":\"/calico/v1/config/b\",\"value\":\"1\"}\n{\"key\":\"/calico/v1/config/a\",\"value\":\"2\"}\n",
-        told: "put /calico/v1/config/a \"1\"\nput /calico/v1/config/b \"1\"\nput /calico/v1/config/a \"2\"\ncut 3\n",
+        feed: r#"{"key":"/calico/v1/config/a","value":"1"}
+{"key":"/calico/v1/config/b","value":"1"}
+{"key":"/calico/v1/config/a","value":"2"}
+"#,
+        told: r#"put /calico/v1/config/a "1"
+put /calico/v1/config/b "1"
+put /calico/v1/config/a "2"
+cut 3
+"#,
     },
     Case {
-        feed: "{\"key\":\"/calico/v1/config/a\",\"value\":\"1\"}\n{\"key\":\"/calico/v1/config/a\",\"value\":null}\n\n{\"key\":\"/calico/v1/config/b\",\"value\":\"1\"}\n\n",
-        told: "put /calico/v1/config/a \"1\"\ndel /calico/v1/config/a\nmark\ncut 3\nput /calico/v1/config/b \"1\"\nmark\ncut 5\n",
+        feed: r#"{"key":"/calico/v1/config/a","value":"1"}
+{"key":"/calico/v1/config/a","value":null}
+
+{"key":"/calico/v1/config/b","value":"1"}
+
+"#,
+        told: r#"put /calico/v1/config/a "1"
+del /calico/v1/config/a
+mark
+cut 3
+put /calico/v1/config/b "1"
+mark
+cut 5
+"#,
     },
     Case {
         feed: " \t\r\n{\"status\":\"resync\",\"at\":3}\r\n{\"status\":\"wait-for-ready\"}",
         told: "mark\ncut 1\nresync\ncut 2\nwait-for-ready\ncut 3\n",
     },
     Case {
-        feed: " { \"value\" : false , \"revision\" : \"71\", \"key\" : \"/calico/v1/Ready\" } ",
+        feed: r#" { "value" : false , "revision" : "71", "key" : "/calico/v1/Ready" } "#,
         told: "put /calico/v1/Ready false\ncut 1\n",
     },
     Case {
@@ -114,30 +139,45 @@ const FEEDS: [Case; 14] = [
         told: "put /calico/v1/config/A-z_0.9 \"\u{e9}\\u0001/\\\"\"\ncut 1\n",
     },
     Case {
-        feed: "{\"key\":\"/calico/v1/config/x\"}\n{\"key\":\"/calico/v1/Ready\"}",
+        feed: r#"{"key":"/calico/v1/config/x"}
+{"key":"/calico/v1/Ready"}"#,
         told: "del /calico/v1/config/x\ndel /calico/v1/Ready\ncut 2\n",
     },
     Case {
-        feed: "{\"key\":\"/calico/v1/config/a\",\"key\":\"/calico/v1/config/b\"}",
+        feed: r#"{"key":"/calico/v1/config/a","key":"/calico/v1/config/b"}"#,
         told: "del /calico/v1/config/b\ncut 1\n",
     },
     // A key that doesn't read gives no item, whatever its value.
     Case {
-        feed: "{\"key\":\"/calico/v2/x\",\"value\":\"1\"}\n{\"key\":\"\"}\n",
+        feed: r#"{"key":"/calico/v2/x","value":"1"}
+{"key":""}
+"#,
         told: "",
     },
     Case {
-        feed: "{\"key\":\"/calico/v2/x\",\"value\":\"1\"}\n\n{\"key\":\"/calico/v2/x\"}\n{\"key\":\"/calico/v1/Ready\",\"value\":true}\n",
+        feed: r#"{"key":"/calico/v2/x","value":"1"}
+
+{"key":"/calico/v2/x"}
+{"key":"/calico/v1/Ready","value":true}
+"#,
         told: "mark\ncut 1\nput /calico/v1/Ready true\ncut 2\n",
     },
     // An invalid value deletes its key.
     Case {
-        feed: "{\"key\":\"/calico/v1/Ready\",\"value\":\"true\"}\n{\"key\":\"/calico/v1/config/a\",\"value\":[\"1\"]}\n{\"key\":\"/calico/v1/Ready\",\"value\":1.5}\n",
+        feed: r#"{"key":"/calico/v1/Ready","value":"true"}
+{"key":"/calico/v1/config/a","value":["1"]}
+{"key":"/calico/v1/Ready","value":1.5}
+"#,
         told: "del /calico/v1/Ready\ndel /calico/v1/config/a\ndel /calico/v1/Ready\ncut 3\n",
     },
     // What isn't closed when a bad line comes isn't published.
     Case {
-        feed: "{\"key\":\"/calico/v1/Ready\",\"value\":true}\n\n{\"key\":\"/calico/v1/Ready\",\"value\":false}\noops\n\n",
+        feed: r#"{"key":"/calico/v1/Ready","value":true}
+
+{"key":"/calico/v1/Ready","value":false}
+oops
+
+"#,
         told: "put /calico/v1/Ready true\nmark\ncut 2\nbad 4",
     },
 ];
@@ -160,19 +200,19 @@ const BAD: [&str; 18] = [
     "7",
     "[]",
     "{}",
-    "{\"value\":true}",
-    "{\"status\":\"in-sync\"",
-    "{\"status\":\"in sync\"}",
-    "{\"status\":null}",
-    "{\"status\":\"in-sync\",\"key\":\"/calico/v1/Ready\"}",
-    "{\"status\":null,\"key\":\"/calico/v1/Ready\"}",
-    "{\"status\":\"in-sync\",\"key\":null}",
-    "{\"key\":null,\"value\":true}",
-    "{\"key\":7,\"value\":true}",
-    "{\"key\":\"/calico/v1/Ready\",\"value\":true,\"revision\":7}",
-    "{\"key\":\"/calico/v1/Ready\",\"value\":true,\"revision\":null}",
-    "{\"key\":\"/calico/v1/Ready\",\"value\":true} x",
-    "{\"key\":\"/calico/v1/Ready\",\"value\":01}",
+    r#"{"value":true}"#,
+    r#"{"status":"in-sync""#,
+    r#"{"status":"in sync"}"#,
+    r#"{"status":null}"#,
+    r#"{"status":"in-sync","key":"/calico/v1/Ready"}"#,
+    r#"{"status":null,"key":"/calico/v1/Ready"}"#,
+    r#"{"status":"in-sync","key":null}"#,
+    r#"{"key":null,"value":true}"#,
+    r#"{"key":7,"value":true}"#,
+    r#"{"key":"/calico/v1/Ready","value":true,"revision":7}"#,
+    r#"{"key":"/calico/v1/Ready","value":true,"revision":null}"#,
+    r#"{"key":"/calico/v1/Ready","value":true} x"#,
+    r#"{"key":"/calico/v1/Ready","value":01}"#,
     "\u{a0}",
 ];
 
@@ -257,5 +297,16 @@ fn nothing_comes_after_the_end(rt: HostRuntime) -> Result<(), Fail> {
     assert_eq!(rt; brief(&more), (0, None));
     let again = intake.end(alloc)?;
     assert_eq!(rt; brief(&again), (0, None));
+    Ok(())
+}
+
+#[test]
+fn an_unfinished_line_is_left(rt: HostRuntime) -> Result<(), Fail> {
+    let alloc = rt.alloc();
+    let mut intake = Intake::new(alloc);
+    for (piece, left) in [(" ", 1), (" \n\t", 1), ("", 1), ("\noops", 4), ("\n ", 0)] {
+        let _fed = intake.feed(alloc, piece.as_bytes())?;
+        assert_eq!(rt; intake.left(), left);
+    }
     Ok(())
 }

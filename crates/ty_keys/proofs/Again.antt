@@ -7,7 +7,7 @@ use Rattle.ty_keys.specs.Grammar.{pieces, printed, is_piece, is_part, escaped}
 use Rattle.ty_keys.specs.Faults.{Segment, placed}
 use Rattle.ty_keys.specs.Nets.{is_net}
 use Rattle.ty_keys.specs.Plurals.{kind_of, is_plural}
-use Rattle.ty_keys.specs.Reading.{◌>>=◌, part_at, one_part, two_parts, four_parts, last_part, namespaced, of_kind, pool_of, read_segments}
+use Rattle.ty_keys.specs.Forms.{◌>>=◌, part_at, one_part, two_parts, four_parts, last_part, namespaced, of_kind, pool_of, read_segments}
 use Rattle.ty_keys.proofs.Units.{part_again, and_left, and_right}
 use Rattle.ty_keys.proofs.Networks.{net_again}
 use Rattle.ty_keys.proofs.Named.{Named, named_by}

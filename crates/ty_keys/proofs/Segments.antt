@@ -1,14 +1,14 @@
 -- Cutting a text at its first slash, and then the rest.
 use Rattle.std.proofs.Common.{◌≡◌, ℕ, ◌+◌, ◌≤◌, Bool, true, false, cond, List, [], ◌∷◌, length, get_or, take, drop, refl, sym, ap, ◌∙◌, arith, inl, inr, nat_lt, not, true≢false, ◌-◌, Some, None, Ok}
 use borrow.Author.Tests.{eqb-true}
-use Rattle.ty_keys.specs.Reading.{next, is_end}
+use Rattle.ty_keys.specs.Forms.{next_segment, is_end}
 use Rattle.std.specs.List.{slice_split, onto_first, position_or_len, before_first, after_first, All}
 use Rattle.std.proofs.lemmas.Bool.{cases_lt, ltb-false}
 use Rattle.std.proofs.lemmas.List.{take_all, drop_all, drop_more, length-take-le, length-drop}
 use Rattle.std.proofs.lemmas.List.Sums.{passes_at_first, fails_before_first, prefix_len-le-length}
 use Rattle.std.proofs.lemmas.List.Splits.{slice_split_first, slice_split_none}
 use Rattle.ty_keys.specs.Faults.{segments, placed, is_slash, after_slash}
-use Rattle.ty_keys.specs.Views.{begins}
+use Rattle.ty_keys.specs.steps.Segments.{begins}
 
 -- nothing stands before the slash
 pub segments_at_slash : (at : ℕ) (bs : List ℕ) → segments at (47 ∷ bs) ≡ placed at (slice_split is_slash bs)
@@ -79,14 +79,14 @@ segments_end at bs =
 
 -- one segment, as the code cuts it off
 pub next_is : (at : ℕ) (bs whole front back : List ℕ) (len : ℕ) → begins bs ≡ true → whole ≡ drop 1 bs → len ≡ position_or_len is_slash whole → front ≡ take len whole → back ≡ drop len whole
-    → next (segments at bs) ≡ Ok ((at + 1, front), segments (at + 1 + len) back)
+    → next_segment (segments at bs) ≡ Ok ((at + 1, front), segments (at + 1 + len) back)
 next_is at bs whole front back len h w l f b =
     let rest = drop 1 bs in
     let n = position_or_len is_slash rest in
     let len-is : len ≡ n = l ∙ ap (position_or_len is_slash) w in
     let front-is : front ≡ take n rest = f ∙ ap (λ k. take k whole) len-is ∙ ap (take n) w in
     let back-is : back ≡ drop n rest = b ∙ ap (λ k. drop k whole) len-is ∙ ap (drop n) w in
-    ap next (segments_first at bs h)
-    ∙ ap (λ x. next ((at + 1, x) ∷ segments (at + 1 + n) (drop n rest))) (sym front-is)
-    ∙ ap (λ x. next ((at + 1, front) ∷ segments (at + 1 + n) x)) (sym back-is)
-    ∙ ap (λ k. next ((at + 1, front) ∷ segments (at + 1 + k) back)) (sym len-is)
+    ap next_segment (segments_first at bs h)
+    ∙ ap (λ x. next_segment ((at + 1, x) ∷ segments (at + 1 + n) (drop n rest))) (sym front-is)
+    ∙ ap (λ x. next_segment ((at + 1, front) ∷ segments (at + 1 + n) x)) (sym back-is)
+    ∙ ap (λ k. next_segment ((at + 1, front) ∷ segments (at + 1 + k) back)) (sym len-is)

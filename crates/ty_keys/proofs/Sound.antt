@@ -10,7 +10,7 @@ use Rattle.ty_keys.specs.Grammar.{Piece, Word, Part, Net, Plural, pieces, printe
 use Rattle.ty_keys.specs.Faults.{Segment, fault_in, or_else, part_fault}
 use Rattle.ty_keys.specs.Nets.{net_of}
 use Rattle.ty_keys.specs.Plurals.{Kind, kind_of, is_plural, is_due}
-use Rattle.ty_keys.specs.Reading.{◌>>=◌, part_at, no_form, next, one_part, four_parts, last_part, and_last_part, host_ip, workload, of_host, hosts, of_tier, of_profile, policies, pool_of, pools, ready, of_v1, namespaced, of_kind, resources, of_root, read_segments}
+use Rattle.ty_keys.specs.Forms.{◌>>=◌, part_at, no_form, next_segment, one_part, four_parts, last_part, and_last_part, host_ip, host_workload, under_host, hosts, of_tier, of_profile, policies, pool_of, pools, ready, of_v1, namespaced, of_kind, resources, of_root, read_segments}
 use Rattle.ty_keys.proofs.Units.{part_takes, part_fails}
 use Rattle.ty_keys.proofs.Networks.{net_takes}
 use Rattle.ty_keys.proofs.Named.{same_text, plural_is, due_again}
@@ -125,14 +125,14 @@ workload_no : (a b c : ℕ) (h : Segment) (d : ℕ) (o l p : Segment) (i : ℕ) 
     → fault_in (in_host a b c h d (codes "workload") (o ∷ l ∷ (i, e) ∷ p ∷ [])) ≡ Some NoForm
 workload_no a b c h d o l p i e n = rw n refl
 
-workload_sound : (a b c : ℕ) (h : Segment) (d : ℕ) (ss : List Segment) → Sound (in_host a b c h d (codes "workload") ss) (workload h ss)
+workload_sound : (a b c : ℕ) (h : Segment) (d : ℕ) (ss : List Segment) → Sound (in_host a b c h d (codes "workload") ss) (host_workload h ss)
 workload_sound a b c h d [] = refl
 workload_sound a b c h d (o ∷ []) = refl
 workload_sound a b c h d (o ∷ l ∷ []) = refl
 workload_sound a b c h d (o ∷ l ∷ (i, e) ∷ []) =
     by_word (codes "endpoint") e (λ w. Sound (in_host a b c h d (codes "workload") (o ∷ l ∷ (i, w) ∷ [])) no_form) refl (λ n. rw n refl)
 workload_sound a b c h d (o ∷ l ∷ (i, e) ∷ p ∷ []) =
-    by_word (codes "endpoint") e (λ w. Sound (in_host a b c h d (codes "workload") (o ∷ l ∷ (i, w) ∷ p ∷ [])) (workload h (o ∷ l ∷ (i, w) ∷ p ∷ [])))
+    by_word (codes "endpoint") e (λ w. Sound (in_host a b c h d (codes "workload") (o ∷ l ∷ (i, w) ∷ p ∷ [])) (host_workload h (o ∷ l ∷ (i, w) ∷ p ∷ [])))
     (let ss = in_host a b c h d (codes "workload") (o ∷ l ∷ (i, codes "endpoint") ∷ p ∷ []) in
     part_then ss h _ (or_else (part_fault o) (or_else (part_fault l) (or_else (part_fault p) None))) refl (λ x ex cx.
     part_then ss o _ (or_else (part_fault l) (or_else (part_fault p) None)) cx (λ y ey cy.
@@ -143,9 +143,9 @@ workload_sound a b c h d (o ∷ l ∷ (i, e) ∷ p ∷ []) =
 workload_sound a b c h d (o ∷ l ∷ (i, e) ∷ p ∷ q ∷ ss) =
     by_word (codes "endpoint") e (λ w. Sound (in_host a b c h d (codes "workload") (o ∷ l ∷ (i, w) ∷ p ∷ q ∷ ss)) no_form) refl (λ n. rw n refl)
 
-host_sound : (a b c : ℕ) (h : Segment) (d : ℕ) (w : List ℕ) (ss : List Segment) → Sound (in_host a b c h d w ss) (of_host h (d, w) ss)
+host_sound : (a b c : ℕ) (h : Segment) (d : ℕ) (w : List ℕ) (ss : List Segment) → Sound (in_host a b c h d w ss) (under_host h (d, w) ss)
 host_sound a b c h d w ss =
-    let P : List ℕ → Type 0 = λ w. Sound (in_host a b c h d w ss) (of_host h (d, w) ss) in
+    let P : List ℕ → Type 0 = λ w. Sound (in_host a b c h d w ss) (under_host h (d, w) ss) in
     by_word (codes "config") w P (config_sound a b c h d ss) (λ n1.
     by_word (codes "bird_ip") w P (ip_sound a b c h d ss) (λ n2.
     by_word (codes "endpoint") w P (endpoint_sound a b c h d ss) (λ n3.
@@ -282,7 +282,7 @@ v1_sound a b c w ss =
     by_word (codes "Ready") w P (ready_sound a b c ss) (λ n6.
     rw (n1, n2, n3, n4, n5, n6) (rw (n1, n2, n3, n4, n5, n6) refl)))))))
 
-v1_any : (a b : ℕ) (ss : List Segment) → Sound (in_v1 a b ss) (next ss >>= λ v. of_v1 v.0 v.1)
+v1_any : (a b : ℕ) (ss : List Segment) → Sound (in_v1 a b ss) (next_segment ss >>= λ v. of_v1 v.0 v.1)
 v1_any a b [] = refl
 v1_any a b ((c, w) ∷ ss) = v1_sound a b c w ss
 

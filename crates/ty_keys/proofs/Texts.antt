@@ -8,6 +8,7 @@ use Rattle.std.specs.Str.{all_ascii_digits}
 use Rattle.std.proofs.lemmas.Str.Parse.{IsNumeralModel, numerals_by_fold}
 use Rattle.std.proofs.lemmas.Fmt.{digits_decimal}
 use Rattle.ty_base.specs.Numbers.{value_after}
+use Rattle.ty_base.specs.declared.limits.TheConstants.{KEY_BYTES}
 use Rattle.ty_keys.specs.declared.key.Key.{Key}
 use Rattle.ty_keys.specs.declared.key.Key.TheVariants.{Ready, Global, HostConfig, HostIp, HostEndpoint, Workload, Policy, ProfileRules, ProfileLabels, NetSet, Pool, Resource}
 use Rattle.ty_keys.specs.declared.key.KeyFault.{KeyFault}
@@ -15,7 +16,7 @@ use Rattle.ty_keys.specs.declared.key.KeyFault.TheVariants.{TooLong, NoMemory}
 use Rattle.ty_keys.specs.Faults.{segments, placed, fault_of, fault_in, is_slash, after_slash}
 use Rattle.ty_keys.specs.Grammar.{Piece, Word, Part, Net, Plural, pieces, printed, slashed, is_piece, key_text, IsKey}
 use Rattle.ty_keys.specs.Nets.{is_addr, is_addr_byte, is_net, longest, net_text}
-use Rattle.ty_keys.specs.Reading.{Gives, read_key, read_segments}
+use Rattle.ty_keys.specs.Forms.{Gives, read_key, read_segments}
 use Rattle.ty_keys.proofs.Again.{all_again}
 use Rattle.ty_keys.proofs.Cut.{text_back, segments_joined, flat_printed, placed_texts}
 use Rattle.ty_keys.proofs.Named.{is_clear, named_by}
@@ -92,7 +93,7 @@ all_clear (p ∷ ps) h g =
 pub key_again : (k : Key) → IsKey k → read_key (key_text k) ≡ Ok k
 unfolding read_key key_text
 key_again k h =
-    ap (λ v. cond v (Err TooLong) (read_segments (segments 0 (key_text k)))) (le-ltb 1024 (length (key_text k)) h.short)
+    ap (λ v. cond v (Err TooLong) (read_segments (segments 0 (key_text k)))) (le-ltb KEY_BYTES (length (key_text k)) h.short)
     ∙ ap (λ t. read_segments (segments 0 t)) (flat_printed (pieces k))
     ∙ ap read_segments (segments_joined 0 (prints k) (all_clear (pieces k) (words_clear k) h.pieces))
     ∙ all_again 0 k h.pieces
@@ -112,7 +113,7 @@ pub record Read (text : List ℕ) (k : Key) : Type 0 where
   pub is_text : text ≡ key_text k
   pub clean : fault_of text ≡ None
 
-segments_take : (text : List ℕ) (k : Key) → nat_lt 1024 (length text) ≡ false → read_segments (segments 0 text) ≡ Ok k → Read text k
+segments_take : (text : List ℕ) (k : Key) → nat_lt KEY_BYTES (length text) ≡ false → read_segments (segments 0 text) ≡ Ok k → Read text k
 unfolding segments fault_of key_text
 segments_take text k e h =
     let parts : List (List ℕ) = after_slash (slice_split is_slash text) in
@@ -121,7 +122,7 @@ segments_take text k e h =
     text_is text parts refl (λ z. nothing_read k (sym (ap (λ (ps : List (List ℕ)). read_segments (placed 0 ps)) z) ∙ h))
     ∙ ap (flat_map slashed) (sym (r.text ∙ placed_texts 0 parts)) ∙ sym (flat_printed (pieces k)) in
     record {
-      key = record { pieces = r.pieces; short = let P : List ℕ → Type 0 = λ t. length t ≤ 1024 in subst P is (ltb-false 1024 (length text) e) };
+      key = record { pieces = r.pieces; short = let P : List ℕ → Type 0 = λ t. length t ≤ KEY_BYTES in subst P is (ltb-false KEY_BYTES (length text) e) };
       is_text = is;
       clean = ap (λ v. cond v (Some TooLong) (fault_in (segments 0 text))) e ∙ r.clean;
     }
@@ -129,7 +130,7 @@ segments_take text k e h =
 pub key_takes : (text : List ℕ) (k : Key) → read_key text ≡ Ok k → Read text k
 unfolding read_key
 key_takes text k h =
-    elim (nat_lt 1024 (length text)) as (λ v. nat_lt 1024 (length text) ≡ v → cond v (Err TooLong) (read_segments (segments 0 text)) ≡ Ok k → Read text k) [
+    elim (nat_lt KEY_BYTES (length text)) as (λ v. nat_lt KEY_BYTES (length text) ≡ v → cond v (Err TooLong) (read_segments (segments 0 text)) ≡ Ok k → Read text k) [
       | true ↦ λ e g. absurd cc
       | false ↦ λ e g. segments_take text k e g
     ] refl h
@@ -137,7 +138,7 @@ key_takes text k h =
 pub key_fails : (text : List ℕ) (f : KeyFault) → read_key text ≡ Err f → fault_of text ≡ Some f
 unfolding read_key fault_of
 key_fails text f h =
-    elim (nat_lt 1024 (length text)) as (λ v. cond v (Err TooLong) (read_segments (segments 0 text)) ≡ Err f → cond v (Some TooLong) (fault_in (segments 0 text)) ≡ Some f) [
+    elim (nat_lt KEY_BYTES (length text)) as (λ v. cond v (Err TooLong) (read_segments (segments 0 text)) ≡ Err f → cond v (Some TooLong) (fault_in (segments 0 text)) ≡ Some f) [
       | true ↦ λ g. cc
       | false ↦ λ g. subst (Sound (segments 0 text)) g (all_sound (segments 0 text))
     ] h

@@ -7,16 +7,11 @@ use Rattle.ty_keys.specs.declared.key.KeyFault.{KeyFault}
 use Rattle.ty_keys.specs.declared.key.KeyFault.TheVariants.{EmptyPart, BadByte, BadEscape}
 use Rattle.ty_keys.specs.Grammar.{escaped, escaped_byte, is_visible, is_plain, is_part}
 use Rattle.ty_keys.specs.Faults.{Segment, byte_fault, part_fault, is_code}
-use Rattle.ty_keys.specs.Reading.{part_at, unit_at, escape_at, unescaped, unless}
+use Rattle.ty_keys.specs.Forms.{part_at, unescaped, unless}
+use Rattle.ty_keys.specs.steps.Units.{unit_at, escape_at}
 
 abbrev done : {A : Type 0} → A → Result A KeyFault
 done x = Ok x
-
-ok_same : {A : Type 0} (x y : A) → done x ≡ done y → x ≡ y
-ok_same x y e = cc
-
-failed : {A : Type 0} → KeyFault → Result A KeyFault
-failed f = Err f
 
 pub and_left : (a b : Bool) → (a && b) ≡ true → a ≡ true
 and_left true b h = refl
@@ -74,10 +69,7 @@ text_2f : (bs : List ℕ) → unescaped (37 ∷ 50 ∷ 102 ∷ bs) ≡ 47 ∷ un
 unfolding unescaped
 text_2f bs = refl
 
--- what an escape is, by its two bytes
-pub IsEscape : ℕ → ℕ → ℕ → Type 0
-IsEscape c d x = ((c ≡ 50) × (d ≡ 53) × (x ≡ 37)) ⊎ ((c ≡ 50) × (d ≡ 102) × (x ≡ 47))
-
+-- the escapes, by their two bytes
 escape_cases : (c d : ℕ) {A : Type 0} (yes25 yes2f neither : A) (Q : A → Type 0)
     → ((c ≡ 50) → (d ≡ 53) → Q yes25) → ((c ≡ 50) → (d ≡ 102) → Q yes2f) → (((c == 50) && ((d == 53) || (d == 102))) ≡ false → Q neither)
     → Q (cond ((c == 50) && (d == 53)) yes25 (cond ((c == 50) && (d == 102)) yes2f neither))

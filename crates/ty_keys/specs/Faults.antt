@@ -2,6 +2,7 @@
 use Rattle.std.specs.Prelude.{ℕ, ◌+◌, Bool, true, false, ◌&&◌, ◌||◌, ◌==◌, nat_lt, is_some, List, [], ◌∷◌, length, Option, None, Some, if◌then◌else◌}
 use Rattle.std.specs.List.{find, slice_split}
 use Rattle.std.specs.Str.{bytes_eq}
+use Rattle.ty_base.specs.declared.limits.TheConstants.{KEY_BYTES}
 use Rattle.ty_keys.specs.declared.key.Key.{Key}
 use Rattle.ty_keys.specs.declared.key.Key.TheVariants.{Ready, Global, HostConfig, HostIp, HostEndpoint, Workload, Policy, ProfileRules, ProfileLabels, NetSet, Pool, Resource}
 use Rattle.ty_keys.specs.declared.key.KeyFault.{KeyFault}
@@ -35,8 +36,8 @@ segments at text = placed at (after_slash (slice_split is_slash text))
 -- Forms
 
 -- a key of each form, of which only the form matters
-abbrev pub forms : List Key
-forms =
+abbrev pub each_form : List Key
+each_form =
     Ready ∷ Global [] ∷ HostConfig [] [] ∷ HostIp [] ∷ HostEndpoint [] [] ∷ Workload [] [] [] [] ∷ Policy [] [] ∷
     ProfileRules [] ∷ ProfileLabels [] ∷ NetSet [] ∷ Pool false [] 0 ∷ Pool true [] 0 ∷ Resource [] None [] ∷ Resource [] (Some []) [] ∷ []
 
@@ -54,7 +55,7 @@ fits (p ∷ ps) [] = false
 fits (p ∷ ps) (s ∷ ss) = fits_at p s && fits ps ss
 
 abbrev pub form_of : List Segment → Option Key
-form_of ss = find (λ k. fits (pieces k) ss) forms
+form_of ss = find (λ k. fits (pieces k) ss) each_form
 
 -- Parts
 
@@ -80,10 +81,8 @@ or_else (Some f) other = Some f
 or_else None other = other
 
 abbrev pub fault_at : Piece → Segment → Option KeyFault
-fault_at (Word w) s = None
 fault_at (Part p) s = part_fault s
-fault_at (Net v6 addr len) s = None
-fault_at (Plural namespaced plural) s = None
+fault_at p s = None
 
 -- the leftmost fault of the parts of a form
 abbrev pub first_fault : List Piece → List Segment → Option KeyFault
@@ -100,4 +99,4 @@ fault_in ss = fault_in_form (form_of ss) ss
 
 -- the fault of a text, if it has one
 unfoldable pub fault_of : List ℕ → Option KeyFault
-fault_of text = if nat_lt 1024 (length text) then Some TooLong else fault_in (segments 0 text)
+fault_of text = if nat_lt KEY_BYTES (length text) then Some TooLong else fault_in (segments 0 text)

@@ -4,6 +4,7 @@
 --     IsKey k       its parts, plural and network are such as have a text, and the text isn't too long
 use Rattle.std.specs.Prelude.{ℕ, ◌≡◌, ◌≤◌, Bool, true, false, not, ◌&&◌, ◌==◌, nat_lt, nat_le, List, [], ◌∷◌, length, codes, None, Some, if◌then◌else◌}
 use Rattle.std.specs.List.{list_all, flat_map}
+use Rattle.ty_base.specs.declared.limits.TheConstants.{KEY_BYTES}
 use Rattle.ty_keys.specs.declared.key.Key.{Key}
 use Rattle.ty_keys.specs.declared.key.Key.TheVariants.{Ready, Global, HostConfig, HostIp, HostEndpoint, Workload, Policy, ProfileRules, ProfileLabels, NetSet, Pool, Resource}
 use Rattle.ty_keys.specs.Nets.{is_net, net_text}
@@ -22,8 +23,8 @@ pub data Piece : Type 0 where
 abbrev pub v1 : List Piece → List Piece
 v1 ps = Word (codes "calico") ∷ Word (codes "v1") ∷ ps
 
-abbrev pub of_host : List ℕ → List Piece → List Piece
-of_host host ps = v1 (Word (codes "host") ∷ Part host ∷ ps)
+abbrev pub v1_host : List ℕ → List Piece → List Piece
+v1_host host ps = v1 (Word (codes "host") ∷ Part host ∷ ps)
 
 abbrev pub v3 : List Piece → List Piece
 v3 ps = Word (codes "calico") ∷ Word (codes "resources") ∷ Word (codes "v3") ∷ Word (codes "projectcalico.org") ∷ ps
@@ -31,11 +32,11 @@ v3 ps = Word (codes "calico") ∷ Word (codes "resources") ∷ Word (codes "v3")
 abbrev pub pieces : Key → List Piece
 pieces Ready = v1 (Word (codes "Ready") ∷ [])
 pieces (Global name) = v1 (Word (codes "config") ∷ Part name ∷ [])
-pieces (HostConfig host name) = of_host host (Word (codes "config") ∷ Part name ∷ [])
-pieces (HostIp host) = of_host host (Word (codes "bird_ip") ∷ [])
-pieces (HostEndpoint host endpoint) = of_host host (Word (codes "endpoint") ∷ Part endpoint ∷ [])
+pieces (HostConfig host name) = v1_host host (Word (codes "config") ∷ Part name ∷ [])
+pieces (HostIp host) = v1_host host (Word (codes "bird_ip") ∷ [])
+pieces (HostEndpoint host endpoint) = v1_host host (Word (codes "endpoint") ∷ Part endpoint ∷ [])
 pieces (Workload host orchestrator workload endpoint) =
-    of_host host (Word (codes "workload") ∷ Part orchestrator ∷ Part workload ∷ Word (codes "endpoint") ∷ Part endpoint ∷ [])
+    v1_host host (Word (codes "workload") ∷ Part orchestrator ∷ Part workload ∷ Word (codes "endpoint") ∷ Part endpoint ∷ [])
 pieces (Policy tier policy) = v1 (Word (codes "policy") ∷ Word (codes "tier") ∷ Part tier ∷ Word (codes "policy") ∷ Part policy ∷ [])
 pieces (ProfileRules profile) = v1 (Word (codes "policy") ∷ Word (codes "profile") ∷ Part profile ∷ Word (codes "rules") ∷ [])
 pieces (ProfileLabels profile) = v1 (Word (codes "policy") ∷ Word (codes "profile") ∷ Part profile ∷ Word (codes "labels") ∷ [])
@@ -83,4 +84,4 @@ is_piece (Plural namespaced plural) = is_plural namespaced plural
 
 pub record IsKey (k : Key) : Type 0 where
   pub pieces : list_all is_piece (pieces k) ≡ true
-  pub short : length (key_text k) ≤ 1024
+  pub short : length (key_text k) ≤ KEY_BYTES

@@ -1,7 +1,6 @@
 pub mod Faults
+pub mod Forms
 pub mod Grammar
 pub mod Nets
 pub mod Plurals
-pub mod Printing
-pub mod Reading
-pub mod Views
+pub mod steps

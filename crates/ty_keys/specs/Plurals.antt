@@ -2,6 +2,7 @@
 use Rattle.std.specs.Prelude.{ℕ, Bool, true, false, not, List, [], ◌∷◌, codes, Option, None, Some}
 use Rattle.std.specs.List.{find}
 use Rattle.std.specs.Str.{bytes_eq}
+use Rattle.ty_keys.specs.declared.resources.ResourceKind.{ResourceKind}
 
 pub record Kind : Type 0 where
   pub plural : List ℕ
@@ -31,6 +32,10 @@ kinds =
     in_namespace (codes "networksets") (codes "NetworkSet") ∷
     in_namespace (codes "workloadendpoints") (codes "WorkloadEndpoint") ∷
     []
+
+-- what contracts see of a kind of the code
+abbrev pub view : ResourceKind → Kind
+view r = record { plural = r.plural.now; kind = r.kind.now; namespaced = r.namespaced }
 
 -- the kind that a plural names, if it names one
 unfoldable pub kind_of : List ℕ → Option Kind

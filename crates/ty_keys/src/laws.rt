@@ -4,7 +4,7 @@ ghost use Rattle.ty_keys.specs.declared.key.Key.{Key as KeyOf};
 ghost use Rattle.ty_keys.specs.declared.key.KeyFault.{KeyFault as FaultOf};
 ghost use Rattle.ty_keys.specs.Faults.{fault_of};
 ghost use Rattle.ty_keys.specs.Grammar.{IsKey, key_text};
-ghost use Rattle.ty_keys.specs.Reading.{read_key};
+ghost use Rattle.ty_keys.specs.Forms.{read_key};
 
 /// Reading gives the key whose one text it is, or the text's fault, and reads every key's text.
 pub fn keys_read_back()

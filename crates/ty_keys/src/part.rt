@@ -1,8 +1,9 @@
 // Reading the parts of a key.
 ghost use Rattle.std.specs.Prelude.{◌≡◌, ◌<◌, ◌≤◌, length, IfOk};
-ghost use Rattle.ty_keys.specs.Grammar.{is_plain as plain};
-ghost use Rattle.ty_keys.specs.Reading.{Gives, part_at, unit_at, escape_at};
-ghost use Rattle.ty_keys.specs.Views.{segment};
+ghost use Rattle.ty_keys.specs.Grammar.{is_plain};
+ghost use Rattle.ty_keys.specs.Forms.{Gives, part_at};
+ghost use Rattle.ty_keys.specs.steps.Units.{unit_at, escape_at};
+ghost use Rattle.ty_keys.specs.steps.Segments.{segment};
 
 use crate::key::KeyFault;
 use crate::span::Span;
@@ -48,7 +49,7 @@ fn unit(rest: Span<'_>) -> Result<(u8, Span<'_>), KeyFault>
 
 // Whether a byte stands for itself.
 fn is_plain(byte: u8) -> bool
-    ensures { result ≡ plain byte }
+    ensures { result ≡ is_plain byte }
 {
     byte >= 0x21 && byte <= 0x7e && byte != b'%' && byte != b'/'
 }

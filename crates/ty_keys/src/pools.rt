@@ -3,12 +3,12 @@ ghost use Rattle.std.specs.Prelude.{◌≡◌, ◌<◌, position, option_and_the
 ghost use Rattle.std.specs.List.{list_all, before_first, after_first};
 ghost use Rattle.std.specs.Bool.{OnTrue};
 ghost use Rattle.std.specs.Option.{option_map};
-ghost use Rattle.ty_keys.specs.Nets.{net_of, is_net, is_addr, is_addr_byte as addr_byte, is_dash, longest};
-ghost use Rattle.ty_keys.specs.Reading.{Gives, pool_of, pools};
-ghost use Rattle.ty_keys.specs.Views.{segment, segments_in, net_view};
+ghost use Rattle.ty_keys.specs.Nets.{net_of, is_net, is_addr, is_addr_byte, is_dash, longest};
+ghost use Rattle.ty_keys.specs.Forms.{Gives, pool_of, pools};
+ghost use Rattle.ty_keys.specs.steps.Segments.{segment, segments_in, net_view};
 
-use crate::cutting::{is_word, last, next};
 use crate::key::{Key, KeyFault};
+use crate::segment::{is_word, last, next};
 use crate::span::Span;
 use std::alloc::Global;
 use ty_base::{Text, TextFault, read_u64};
@@ -115,13 +115,13 @@ fn is_address(addr: &[u8]) -> bool
 }
 
 fn all_of_address(addr: &[u8]) -> bool
-    ensures { result ≡ list_all addr_byte addr.now }
+    ensures { result ≡ list_all is_addr_byte addr.now }
 {
     addr.iter().all(|b| is_address_byte(*b))
 }
 
 fn is_address_byte(b: u8) -> bool
-    ensures { result ≡ addr_byte b }
+    ensures { result ≡ is_addr_byte b }
 {
     b.is_ascii_hexdigit() || b == b':' || b == b'.'
 }

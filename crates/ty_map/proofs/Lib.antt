@@ -1,6 +1,6 @@
-pub mod Around
-pub mod Between
-pub mod Low
+pub mod FreshCounts
+pub mod FreshSums
+pub mod Heights
+pub mod Nodes
 pub mod Order
-pub mod Shared
 pub mod Stack

@@ -2,7 +2,8 @@
 use Rattle.std.proofs.Common.{◌≡◌, ℕ, ◌≤◌, List, [], ◌∷◌, ◌++◌, length, map, reverse, ap, ◌∙◌, arith, Bor}
 use Rattle.std.proofs.lemmas.List.{reverse-append, map-append, length-reverse, length-map}
 use Rattle.ty_map.specs.Shape.{Shape}
-use Rattle.ty_map.specs.Stack.{stacked, HasRoom}
+use Rattle.ty_map.specs.Stack.{stacked}
+use Rattle.ty_map.specs.steps.Stack.{HasRoom}
 
 pub stacked_push : (ts : List (Bor Shape)) (t : Bor Shape) → stacked (ts ++ t ∷ []) ≡ t.now ∷ stacked ts
 stacked_push ts t = ap reverse (map-append (λ x. x.now) ts (t ∷ [])) ∙ reverse-append (map (λ x. x.now) ts) (t.now ∷ [])

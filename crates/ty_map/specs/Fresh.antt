@@ -1,5 +1,5 @@
 -- Which nodes of a tree are in no part of an older one.
-use Rattle.std.specs.Prelude.{◌≡◌, ℕ, ◌+◌, ◌≤◌, Bool, true, false, ◌&&◌, ◌||◌, ◌==◌, if◌then◌else◌, List, [], ◌∷◌, map}
+use Rattle.std.specs.Prelude.{◌≡◌, ℕ, ◌+◌, Bool, true, false, ◌&&◌, ◌||◌, ◌==◌, if◌then◌else◌, List, [], ◌∷◌, map}
 use Rattle.std.specs.List.{list_any}
 use Rattle.std.specs.Str.{bytes_eq}
 use Rattle.ty_base.specs.Feed.{same_pair}
@@ -30,7 +30,3 @@ AllDiffer (k ∷ ks) = (list_any (bytes_eq k) ks ≡ false) × AllDiffer ks
 -- no key of a tree stands twice
 abbrev pub HasNoKeyTwice : Shape → Type 0
 HasNoKeyTwice t = AllDiffer (map (λ e. e.0) (pairs t))
-
--- for private clauses: at most n nodes of a tree are fresh
-abbrev pub AtMostFresh : Shape → Shape → ℕ → Type 0
-AtMostFresh old t n = fresh old t ≤ n

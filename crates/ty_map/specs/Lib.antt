@@ -3,3 +3,4 @@ pub mod Fresh
 pub mod Nodes
 pub mod Shape
 pub mod Stack
+pub mod steps

@@ -1,8 +1,8 @@
 -- The trees that a walk has still to finish, the lowest first.
-use Rattle.std.specs.Prelude.{ℕ, ◌+◌, ◌<◌, ◌≤◌, List, [], ◌∷◌, ◌++◌, length, map, reverse}
+use Rattle.std.specs.Prelude.{List, [], ◌∷◌, ◌++◌, map, reverse}
 use Rattle.std.proofs.Common.{Bor}
 use Rattle.ty_base.specs.Feed.{Pairs}
-use Rattle.ty_map.specs.Shape.{Shape, Empty, Fork, pairs, height}
+use Rattle.ty_map.specs.Shape.{Shape, Empty, Fork, pairs}
 
 -- the trees of a stack, its top first
 abbrev pub stacked : List (Bor Shape) → List Shape
@@ -13,8 +13,3 @@ abbrev pub rest : List Shape → Pairs
 rest [] = []
 rest (Empty ∷ ts) = rest ts
 rest (Fork l e r h ∷ ts) = (e ∷ pairs r) ++ rest ts
-
--- each tree of the stack has a node, and room for all that it may put in its own place
-abbrev pub HasRoom : ℕ → List Shape → Type 0
-HasRoom room [] = Unit {0}
-HasRoom room (t ∷ ts) = (0 < height t) × (height t + length ts ≤ room) × HasRoom room ts

@@ -1,8 +1,8 @@
 // How many nodes of a tree an older one lacks.
-ghost use Rattle.std.specs.Prelude.{◌≡◌, ℕ, ◌+◌, ◌≤◌, length};
+ghost use Rattle.std.specs.Prelude.{◌≡◌, ◌+◌, ◌≤◌, length};
 ghost use Rattle.ty_base.specs.Feed.{same_pair};
 ghost use Rattle.ty_map.specs.Fresh.{fresh, same_shape, is_subtree, HasNoKeyTwice};
-ghost use Rattle.ty_map.specs.Nodes.{entry};
+ghost use Rattle.ty_map.specs.Nodes.{pair_of};
 ghost use Rattle.ty_map.specs.Shape.{Shape, pairs};
 
 use crate::tree::{Pair, Tree};
@@ -65,7 +65,7 @@ fn is_same(one: &Tree, other: &Tree) -> bool
 }
 
 fn same_entry(one: &Pair, other: &Pair) -> bool
-    ensures { result ≡ same_pair (entry one.now) (entry other.now) }
+    ensures { result ≡ same_pair (pair_of one.now) (pair_of other.now) }
 {
     one.key.same(&other.key) && one.value.same(&other.value)
 }

@@ -94,8 +94,11 @@ impl Pairs {
 
     /// The pairs in ascending order of the keys' bytes. Only this call takes memory, and no step of the walk.
     pub fn walk(&self, alloc: Global) -> Result<Walk<'_>, NoMemory>
-        ensures { IfOk result (λ w. w ≡ self.now) }
+        ensures pairs { IfOk result (λ w. w ≡ self.now) }
+        ensures ascending { IsAscending self.now }
     {
+        // Reads the count of pairs, so that their order is known.
+        let _all = self.tree.len();
         Walk::of(alloc, &self.tree)
     }
 

@@ -4,9 +4,10 @@ ghost use Rattle.std.specs.Option.{option_copied};
 ghost use Rattle.std.specs.Arc.{arc_value};
 ghost use Rattle.ty_base.specs.Feed.{insert, remove, get};
 ghost use Rattle.ty_map.specs.Ascending.{IsAscending};
-ghost use Rattle.ty_map.specs.Fresh.{fresh, AtMostFresh};
-ghost use Rattle.ty_map.specs.Nodes.{entry};
-ghost use Rattle.ty_map.specs.Shape.{Shape, Empty, Fork, pairs, height, DifferByAtMost, IsHeightAfterRebalance};
+ghost use Rattle.ty_map.specs.Fresh.{fresh};
+ghost use Rattle.ty_map.specs.steps.Tree.{AtMostFresh, IsHeightAfterRebalance};
+ghost use Rattle.ty_map.specs.Nodes.{pair_of};
+ghost use Rattle.ty_map.specs.Shape.{Shape, Empty, Fork, pairs, height, IsBalanced, DifferByAtMost};
 
 use std::alloc::Global;
 use std::cmp::Ordering;
@@ -47,16 +48,17 @@ struct Node {
 }
 
 impl Model for Tree {
-    ghost use Rattle.std.specs.Prelude.{ℕ, List, length};
+    ghost use Rattle.std.specs.Prelude.{ℕ, length};
     ghost use Rattle.ty_map.specs.Shape.{Shape, pairs};
 
     ghost Value = { Shape };
 
-    ghost use Rattle.ty_map.specs.Shape.{shape_code};
+    ghost use Rattle.ty_map.specs.steps.Code.{shape_code};
 
     ghost coded = { shape_code };
 
-    ghost use Rattle.ty_map.specs.Nodes.{shape_of, IsAvl};
+    ghost use Rattle.ty_map.specs.Nodes.{shape_of};
+    ghost use Rattle.ty_map.specs.steps.Tree.{IsAvl};
 
     ghost view = { λ a. shape_of a.root };
 
@@ -91,6 +93,7 @@ impl Tree {
     /// How many nodes stand on the longest way down.
     pub fn height(&self) -> u64
         ensures value { result ≡ height self.now }
+        ensures balanced { IsBalanced self.now }
         ensures low { 2 ^ result ≤ (length (pairs self.now) + 1) ^ 2 }
         ensures high { length (pairs self.now) + 1 ≤ 2 ^ result }
     {
@@ -103,8 +106,10 @@ impl Tree {
     /// The left side, the pair and the right side of the topmost node, if there is one.
     pub fn sides(&self) -> Option<(&Tree, &Pair, &Tree)>
         ensures none { IfNone result (self.now ≡ Empty) }
-        ensures some { IfSome result (λ s. self.now ≡ Fork s.0.now (entry s.1.now) s.2.now (height self.now)) }
-        ensures lower { IfSome result (λ s. (height s.0.now < height self.now) × (height s.2.now < height self.now)) }
+        ensures some { IfSome result (λ s. self.now
+            ≡ Fork s.0.now (pair_of s.1.now) s.2.now (height self.now)) }
+        ensures lower { IfSome result (λ s. (height s.0.now < height self.now)
+            × (height s.2.now < height self.now)) }
     {
         match &self.root {
             Root::Leaf => None,
@@ -117,7 +122,8 @@ impl Tree {
 
     /// The tree with a pair put in.
     pub fn put(&self, alloc: Global, pair: Arc<Pair>) -> Result<Tree, NoMemory>
-        ensures pairs { IfOk result (λ t. pairs t ≡ insert (pairs self.now) (arc_value pair).key (arc_value pair).value) }
+        ensures pairs { IfOk result (λ t. pairs t
+            ≡ insert (pairs self.now) (arc_value pair).key (arc_value pair).value) }
         ensures not_lower { IfOk result (λ t. height self.now ≤ height t) }
         ensures at_most_one_higher { IfOk result (λ t. height t ≤ height self.now + 1) }
         ensures fresh { IfOk result (λ t. fresh self.now t ≤ 3 * (height self.now + 1)) }
@@ -167,7 +173,8 @@ impl Tree {
     // The first pair, and the tree without it.
     fn split_first(&self, alloc: Global) -> Result<Option<(Arc<Pair>, Tree)>, NoMemory>
         ensures none { IfOk result (λ o. IfNone o (self.now ≡ Empty)) }
-        ensures pairs { IfOk result (λ o. IfSome o (λ p. pairs self.now ≡ entry (arc_value p.0) ∷ pairs p.1)) }
+        ensures pairs { IfOk result (λ o. IfSome o (λ p. pairs self.now
+            ≡ pair_of (arc_value p.0) ∷ pairs p.1)) }
         ensures not_higher { IfOk result (λ o. IfSome o (λ p. height p.1 ≤ height self.now)) }
         ensures at_most_one_lower { IfOk result (λ o. IfSome o (λ p. height self.now ≤ height p.1 + 1)) }
         ensures fresh { IfOk result (λ o. IfSome o (λ p. AtMostFresh self.now p.1 (3 * height self.now))) }
@@ -221,11 +228,13 @@ impl Tree {
 
 // Joins sides whose heights differ by at most two.
 fn balance(alloc: Global, left: Tree, pair: Arc<Pair>, right: Tree) -> Result<Tree, NoMemory>
-    requires sorted { IsAscending (pairs left ++ entry (arc_value pair) ∷ pairs right) }
+    requires sorted { IsAscending (pairs left ++ pair_of (arc_value pair) ∷ pairs right) }
     requires near { DifferByAtMost 2 (height left) (height right) }
-    ensures pairs { IfOk result (λ t. pairs t ≡ pairs left ++ entry (arc_value pair) ∷ pairs right) }
+    ensures pairs { IfOk result (λ t. pairs t
+        ≡ pairs left ++ pair_of (arc_value pair) ∷ pairs right) }
     ensures height { IfOk result (λ t. IsHeightAfterRebalance (height left) (height right) (height t)) }
-    ensures fresh { (old : Shape) (a b : ℕ) → AtMostFresh old left a → AtMostFresh old right b → IfOk result (λ t. AtMostFresh old t (a + b + 3)) }
+    ensures fresh { (old : Shape) (a b : ℕ) → AtMostFresh old left a → AtMostFresh old right b
+        → IfOk result (λ t. AtMostFresh old t (a + b + 3)) }
 {
     let (hl, hr) = (left.height(), right.height());
     if hl > hr && hl - hr > 1 {
@@ -239,12 +248,14 @@ fn balance(alloc: Global, left: Tree, pair: Arc<Pair>, right: Tree) -> Result<Tr
 
 // Joins sides of which the left is two higher: one rotation, or two where its inner side is the higher one.
 fn lean_left(alloc: Global, left: Tree, pair: Arc<Pair>, right: Tree) -> Result<Tree, NoMemory>
-    requires sorted { IsAscending (pairs left ++ entry (arc_value pair) ∷ pairs right) }
+    requires sorted { IsAscending (pairs left ++ pair_of (arc_value pair) ∷ pairs right) }
     requires two_higher { height left ≡ height right + 2 }
-    ensures pairs { IfOk result (λ t. pairs t ≡ pairs left ++ entry (arc_value pair) ∷ pairs right) }
+    ensures pairs { IfOk result (λ t. pairs t
+        ≡ pairs left ++ pair_of (arc_value pair) ∷ pairs right) }
     ensures not_lower { IfOk result (λ t. height left ≤ height t) }
     ensures at_most_one_higher { IfOk result (λ t. height t ≤ height left + 1) }
-    ensures fresh { (old : Shape) (a b : ℕ) → AtMostFresh old left a → AtMostFresh old right b → IfOk result (λ t. AtMostFresh old t (a + b + 3)) }
+    ensures fresh { (old : Shape) (a b : ℕ) → AtMostFresh old left a → AtMostFresh old right b
+        → IfOk result (λ t. AtMostFresh old t (a + b + 3)) }
 {
     let Root::Node(outer) = &left.root else {
         unreachable!()
@@ -264,12 +275,14 @@ fn lean_left(alloc: Global, left: Tree, pair: Arc<Pair>, right: Tree) -> Result<
 
 // The same with the right two higher.
 fn lean_right(alloc: Global, left: Tree, pair: Arc<Pair>, right: Tree) -> Result<Tree, NoMemory>
-    requires sorted { IsAscending (pairs left ++ entry (arc_value pair) ∷ pairs right) }
+    requires sorted { IsAscending (pairs left ++ pair_of (arc_value pair) ∷ pairs right) }
     requires two_higher { height right ≡ height left + 2 }
-    ensures pairs { IfOk result (λ t. pairs t ≡ pairs left ++ entry (arc_value pair) ∷ pairs right) }
+    ensures pairs { IfOk result (λ t. pairs t
+        ≡ pairs left ++ pair_of (arc_value pair) ∷ pairs right) }
     ensures not_lower { IfOk result (λ t. height right ≤ height t) }
     ensures at_most_one_higher { IfOk result (λ t. height t ≤ height right + 1) }
-    ensures fresh { (old : Shape) (a b : ℕ) → AtMostFresh old left a → AtMostFresh old right b → IfOk result (λ t. AtMostFresh old t (a + b + 3)) }
+    ensures fresh { (old : Shape) (a b : ℕ) → AtMostFresh old left a → AtMostFresh old right b
+        → IfOk result (λ t. AtMostFresh old t (a + b + 3)) }
 {
     let Root::Node(outer) = &right.root else {
         unreachable!()
@@ -289,9 +302,10 @@ fn lean_right(alloc: Global, left: Tree, pair: Arc<Pair>, right: Tree) -> Result
 
 // Makes one node.
 fn join(alloc: Global, left: Tree, pair: Arc<Pair>, right: Tree) -> Result<Tree, NoMemory>
-    requires sorted { IsAscending (pairs left ++ entry (arc_value pair) ∷ pairs right) }
+    requires sorted { IsAscending (pairs left ++ pair_of (arc_value pair) ∷ pairs right) }
     requires balanced { DifferByAtMost 1 (height left) (height right) }
-    ensures { IfOk result (λ t. t ≡ Fork left (entry (arc_value pair)) right (max (height left) (height right) + 1)) }
+    ensures { IfOk result (λ t. t
+        ≡ Fork left (pair_of (arc_value pair)) right (max (height left) (height right) + 1)) }
 {
     // Reads both sides' roots, so that what their type keeps is known.
     let (_, _) = (&left.root, &right.root);

@@ -1,9 +1,9 @@
 // A tree's pairs, one after another.
 ghost use Rattle.std.specs.Prelude.{◌≡◌, ◌+◌, ◌≤◌, ◌++◌, vec_len, vec_capacity, IfOk};
 ghost use Rattle.std.specs.Iterator.{YieldsFirstBy, item_count};
-ghost use Rattle.ty_map.specs.Ascending.{IsAscending};
 ghost use Rattle.ty_map.specs.Shape.{pairs, height};
-ghost use Rattle.ty_map.specs.Stack.{stacked, rest, HasRoom};
+ghost use Rattle.ty_map.specs.Stack.{stacked, rest};
+ghost use Rattle.ty_map.specs.steps.Stack.{HasRoom};
 
 use crate::tree::Tree;
 use std::alloc::Global;
@@ -19,7 +19,8 @@ pub struct Walk<'a> {
 
 impl<'a> Model for Walk<'a> {
     ghost use Rattle.std.specs.Prelude.{ℕ, List, vec_capacity};
-    ghost use Rattle.ty_map.specs.Stack.{stacked, rest, HasRoom};
+    ghost use Rattle.ty_map.specs.Stack.{stacked, rest};
+    ghost use Rattle.ty_map.specs.steps.Stack.{HasRoom};
 
     ghost Value = { List (List ℕ × List ℕ) };
 
@@ -61,7 +62,8 @@ fn descend<'a>(stack: &mut Vec<&'a Tree>, tree: &'a Tree)
     requires room { HasRoom (vec_capacity stack.old) (stacked stack.old.items) }
     requires fits { height tree.now + vec_len stack.old ≤ vec_capacity stack.old }
     ensures room { HasRoom (vec_capacity stack.new) (stacked stack.new.items) }
-    ensures rest { rest (stacked stack.new.items) ≡ pairs tree.now ++ rest (stacked stack.old.items) }
+    ensures rest { rest (stacked stack.new.items)
+        ≡ pairs tree.now ++ rest (stacked stack.old.items) }
 {
     let Some((left, _, _)) = tree.sides() else {
         return;

@@ -12,6 +12,7 @@ use Rattle.ty_base.proofs.Digits.{read_decimal, decimal_of_read}
 use Rattle.ty_net.specs.declared.address.Ip.{Ip}
 use Rattle.ty_net.specs.declared.address.Ip.TheVariants.{V4, V6}
 use Rattle.ty_net.specs.declared.cidr.Cidr.{Cidr}
+use Rattle.ty_net.specs.declared.ports.TheConstants.{GREATEST_PORT}
 use Rattle.ty_net.specs.declared.ports.PortRange.{PortRange}
 use Rattle.ty_net.specs.declared.fault.NetFault.{NetFault}
 use Rattle.ty_net.specs.declared.fault.NetFault.TheVariants.{BadIp, Reversed}
@@ -93,11 +94,11 @@ network_once text a b h k = same_Some a b (sym (network_read text a h) ∙ netwo
 
 -- Ports
 
-port_is : (text : List ℕ) (n : ℕ) → port_of text ≡ Some n → (text ≡ decimal n) × (n < 2 ^ 16)
-port_is text n e = let (digits, fits) = number_is 65535 text n e in (digits, omega arith)
+port_is : (text : List ℕ) (n : ℕ) → port_of text ≡ Some n → (text ≡ decimal n) × (n ≤ GREATEST_PORT)
+port_is text n e = let (digits, fits) = number_is GREATEST_PORT text n e in (digits, omega arith)
 
-port_read : (n : ℕ) → n < 2 ^ 16 → port_of (decimal n) ≡ Some n
-port_read n h = number_read 65535 n (omega arith) (omega arith)
+port_read : (n : ℕ) → n ≤ GREATEST_PORT → port_of (decimal n) ≡ Some n
+port_read n h = number_read GREATEST_PORT n (omega arith) (omega arith)
 
 -- two ports in order, or out of it
 in_order : (n m : ℕ) → n ≤ m → range_of (Some n) (Some m) ≡ Ok (record { low = n; high = m })

@@ -9,7 +9,7 @@ use Rattle.std.specs.Option.{option_map, option_or}
 use Rattle.std.specs.Str.Parse.{AllDigits, digits_value}
 use Rattle.std.specs.Net.Addr.{segments_of}
 use Rattle.std.specs.Net.Grammar.{IsDotted, IsGroup, IsGroupsAfter}
-use Rattle.ty_net.specs.Addresses.{◌>>=◌, pieces, octets, group, last_groups, groups}
+use Rattle.ty_net.specs.Addresses.{◌>>=◌, split_at, octets, hex_group, last_groups, groups}
 use Rattle.ty_net.proofs.Pieces.{Lacks, lacks_both, lacks_digits, pieces_one, pieces_more, some_piece, joined, bind_some}
 use Rattle.ty_net.proofs.Octets.{octets_sound, octets_complete, dotted_lacks, dotted_lacks_colon, dotted_has_dot}
 
@@ -21,14 +21,14 @@ hex_to : (text : List ℕ) → list_all (λ b. is_digit b 16) text ≡ true → 
 hex_to [] h = tt
 hex_to (b ∷ text) h = let (one, more) = and_parts _ _ h in (ltb-true (digit_value b) 16 one, hex_to text more)
 
-pub group_complete : (text : List ℕ) (s : ℕ) → IsGroup text s → group text ≡ Some s
-unfolding group
+pub group_complete : (text : List ℕ) (s : ℕ) → IsGroup text s → hex_group text ≡ Some s
+unfolding hex_group
 group_complete text s h =
     let some : 1 ≤ length text = omega (arith, h.0.0.0) in
     rw (hex_from text h.0.0.1, le-leb 1 (length text) some, le-leb (length text) 4 h.1) (ap Some h.0.1)
 
-pub group_sound : (text : List ℕ) (s : ℕ) → group text ≡ Some s → IsGroup text s
-unfolding group
+pub group_sound : (text : List ℕ) (s : ℕ) → hex_group text ≡ Some s → IsGroup text s
+unfolding hex_group
 group_sound text s e =
     let (test, same) = cond_some _ (digits_value 16 text) s e in
     let (front, most) = and_parts _ _ test in
@@ -39,14 +39,14 @@ group_sound text s e =
 pub group_lacks : (text : List ℕ) (s : ℕ) → IsGroup text s → Lacks 58 text
 group_lacks text s h = lacks_digits 16 58 text (lit≤ tt) h.0.0.1
 
-dotted_no_group : (text o : List ℕ) → IsDotted text o → group text ≡ None
-dotted_no_group text o h = go (group text) refl
+dotted_no_group : (text o : List ℕ) → IsDotted text o → hex_group text ≡ None
+dotted_no_group text o h = go (hex_group text) refl
   where
-    go : (r : Option ℕ) → group text ≡ r → group text ≡ None
+    go : (r : Option ℕ) → hex_group text ≡ r → hex_group text ≡ None
     go None e = e
     go (Some s) e = absurd (dotted_has_dot text o h (lacks_digits 16 46 text (lit≤ tt) (group_sound text s e).0.0.1))
 
-last_one : (dotted : Bool) (p : List ℕ) (s : ℕ) → group p ≡ Some s → last_groups dotted p ≡ Some (s ∷ [])
+last_one : (dotted : Bool) (p : List ℕ) (s : ℕ) → hex_group p ≡ Some s → last_groups dotted p ≡ Some (s ∷ [])
 last_one false p s h = rw h
 last_one true p s h = rw h
 
@@ -54,7 +54,7 @@ last_two : (dotted : Bool) (p o : List ℕ) → IsTrue dotted → IsDotted p o �
 last_two false p o allowed h = absurd (true≢false (sym allowed))
 last_two true p o allowed h = rw (dotted_no_group p o h, octets_complete p o h)
 
-groups_step : (dotted : Bool) (p q : List ℕ) (ps qs : List (List ℕ)) (s : ℕ) (ss : List ℕ) → ps ≡ q ∷ qs → group p ≡ Some s → groups dotted ps ≡ Some ss → groups dotted (p ∷ ps) ≡ Some (s ∷ ss)
+groups_step : (dotted : Bool) (p q : List ℕ) (ps qs : List (List ℕ)) (s : ℕ) (ss : List ℕ) → ps ≡ q ∷ qs → hex_group p ≡ Some s → groups dotted ps ≡ Some ss → groups dotted (p ∷ ps) ≡ Some (s ∷ ss)
 groups_step dotted p q ps qs s ss e h k =
     let P : List (List ℕ) → Type 0 = λ x. groups dotted x ≡ Some ss → groups dotted (p ∷ x) ≡ Some (s ∷ ss) in
     subst P (sym e) (λ m. ap (λ o. o >>= λ g. groups dotted (q ∷ qs) >>= λ gs. Some (g ∷ gs)) h ∙ ap (λ o. o >>= λ gs. Some (s ∷ gs)) m) k
@@ -68,22 +68,22 @@ with_lead : (dotted : Bool) (s : ℕ) (segments t : List ℕ) → IsGroupsAfter 
 with_lead dotted s segments t (inl h) = inl (h.0, h.1, ap (λ x. 58 ∷ x) h.2, h.3, h.4)
 with_lead dotted s segments t (inr h) = inr (h.0, h.1, h.2, ap (λ x. 58 ∷ x) h.3, h.4, h.5)
 
-pub groups_complete : (dotted : Bool) (segments : List ℕ) (s : ℕ) (text : List ℕ) → IsGroupsAfter dotted [] text (s ∷ segments) → groups dotted (pieces 58 text) ≡ Some (s ∷ segments)
+pub groups_complete : (dotted : Bool) (segments : List ℕ) (s : ℕ) (text : List ℕ) → IsGroupsAfter dotted [] text (s ∷ segments) → groups dotted (split_at 58 text) ≡ Some (s ∷ segments)
 groups_complete dotted [] s text (inl h) =
     let (g, rest, split, is_group, none) = h in
     let shown : text ≡ g = split ∙ ap (λ r. g ++ r) none ∙ append-nil g in
-    ap (λ t. groups dotted (pieces 58 t)) shown ∙ ap (groups dotted) (pieces_one 58 g (group_lacks g s is_group)) ∙ last_one dotted g s (group_complete g s is_group)
+    ap (λ t. groups dotted (split_at 58 t)) shown ∙ ap (groups dotted) (pieces_one 58 g (group_lacks g s is_group)) ∙ last_one dotted g s (group_complete g s is_group)
 groups_complete dotted (s' ∷ segments) s text (inl h) =
     let (g, rest, split, is_group, more) = h in
     let (t, led, later) = without_lead dotted s' segments rest more in
     let (q, qs, some) = some_piece 58 t in
     let shown : text ≡ g ++ (58 ∷ t) = split ∙ ap (λ r. g ++ r) led in
-    ap (λ t. groups dotted (pieces 58 t)) shown
+    ap (λ t. groups dotted (split_at 58 t)) shown
     ∙ ap (groups dotted) (pieces_more 58 g t (group_lacks g s is_group))
-    ∙ groups_step dotted g q (pieces 58 t) qs s (s' ∷ segments) some (group_complete g s is_group) (groups_complete dotted segments s' t later)
+    ∙ groups_step dotted g q (split_at 58 t) qs s (s' ∷ segments) some (group_complete g s is_group) (groups_complete dotted segments s' t later)
 groups_complete dotted segments s text (inr h) =
     let (last, o, allowed, split, is_dotted, value) = h in
-    ap (λ t. groups dotted (pieces 58 t)) split
+    ap (λ t. groups dotted (split_at 58 t)) split
     ∙ ap (groups dotted) (pieces_one 58 last (dotted_lacks_colon last o is_dotted))
     ∙ last_two dotted last o allowed is_dotted ∙ ap Some (sym value)
 
@@ -91,7 +91,7 @@ groups_complete dotted segments s text (inr h) =
 abbrev pub Spelled : Bool → List ℕ → List ℕ → Type 0
 Spelled dotted text ss = (s : ℕ) × (rest : List ℕ) × (ss ≡ s ∷ rest) × IsGroupsAfter dotted [] text (s ∷ rest)
 
-one_spelled : (dotted : Bool) (p ss : List ℕ) (g : ℕ) → group p ≡ Some g → g ∷ [] ≡ ss → Spelled dotted (p ++ []) ss
+one_spelled : (dotted : Bool) (p ss : List ℕ) (g : ℕ) → hex_group p ≡ Some g → g ∷ [] ≡ ss → Spelled dotted (p ++ []) ss
 one_spelled dotted p ss g h e = (g, [], sym e, inl (p, [], refl, group_sound p g h, refl))
 
 two_spelled : (p o ss : List ℕ) → octets p ≡ Some o → segments_of o ≡ ss → Spelled true (p ++ []) ss
@@ -100,10 +100,10 @@ two_spelled p o ss h e =
     (d.a * 256 + d.b, (d.c * 256 + d.d) ∷ [], sym e ∙ ap segments_of d.value, inr (p, o, refl, append-nil p, d, ap segments_of (sym d.value)))
 
 last_sound : (dotted : Bool) (p ss : List ℕ) → last_groups dotted p ≡ Some ss → Spelled dotted (p ++ []) ss
-last_sound false p ss e = map_some _ (group p) ss e λ g one same. one_spelled false p ss g one same
-last_sound true p ss e = go (group p) refl e
+last_sound false p ss e = map_some _ (hex_group p) ss e λ g one same. one_spelled false p ss g one same
+last_sound true p ss e = go (hex_group p) refl e
   where
-    go : (r : Option ℕ) → group p ≡ r → option_or (option_map (λ g. g ∷ []) r) (option_map segments_of (octets p)) ≡ Some ss → Spelled true (p ++ []) ss
+    go : (r : Option ℕ) → hex_group p ≡ r → option_or (option_map (λ g. g ∷ []) r) (option_map segments_of (octets p)) ≡ Some ss → Spelled true (p ++ []) ss
     go (Some g) one k = one_spelled true p ss g one (same_Some _ _ k)
     go None none k = map_some segments_of (octets p) ss k λ o two same. two_spelled p o ss two same
 
@@ -111,7 +111,7 @@ pub groups_sound : (dotted : Bool) (ps : List (List ℕ)) (ss : List ℕ) → gr
 groups_sound dotted [] ss e = absurd (none-some ss e)
 groups_sound dotted (p ∷ []) ss e = last_sound dotted p ss e
 groups_sound dotted (p ∷ q ∷ ps) ss e =
-    let (g, one, rest) = bind_some (group p) _ ss e in
+    let (g, one, rest) = bind_some (hex_group p) _ ss e in
     let (gs, more, last) = bind_some (groups dotted (q ∷ ps)) _ ss rest in
     let same = same_Some (g ∷ gs) ss last in
     let (s, ts, gs_are, spelled) = groups_sound dotted (q ∷ ps) gs more in

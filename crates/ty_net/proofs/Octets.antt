@@ -8,7 +8,7 @@ use Rattle.std.specs.Char.{digit_value}
 use Rattle.std.specs.Net.Grammar.{IsDotted}
 use Rattle.ty_base.specs.Numbers.{read_number}
 use Rattle.ty_base.proofs.Digits.{read_decimal, decimal_of_read}
-use Rattle.ty_net.specs.Addresses.{◌>>=◌, pieces, each, counted, up_to, octet, octets}
+use Rattle.ty_net.specs.Addresses.{◌>>=◌, split_at, each, counted, up_to, octet, octets}
 use Rattle.ty_net.proofs.Pieces.{Lacks, lacks_both, lacks_digits, lacks_none, pieces_one, pieces_more, joined, joined-pieces, bind_some}
 
 octet_decimal : (n : ℕ) → n < 256 → octet (decimal n) ≡ Some n
@@ -59,9 +59,9 @@ four text (a ∷ b ∷ c ∷ d ∷ f ∷ ns) l s e = absurd (omega arith)
 pub octets_sound : (text o : List ℕ) → octets text ≡ Some o → IsDotted text o
 unfolding octets
 octets_sound text o e =
-    let (ns, read, kept) = bind_some (each octet (pieces 46 text)) (counted 4) o e in
+    let (ns, read, kept) = bind_some (each octet (split_at 46 text)) (counted 4) o e in
     let (count, same) = cond_some _ ns o kept in
-    let (pieces_are, small) = each_octet (pieces 46 text) ns read in
+    let (pieces_are, small) = each_octet (split_at 46 text) ns read in
     rw (← same) (four text ns (eqb-true (length ns) 4 count) small (sym (joined-pieces 46 text) ∙ ap (joined 46) pieces_are))
 
 pub decimal_lacks : (c n : ℕ) → 10 ≤ digit_value c → n < 2 ^ 64 → Lacks c (decimal n)
@@ -73,7 +73,7 @@ lacks_dot n h = decimal_lacks 46 n (lit≤ tt) (omega arith)
 parted : (x y z w : List ℕ) → x ++ (46 ∷ []) ++ y ++ (46 ∷ []) ++ z ++ (46 ∷ []) ++ w ≡ x ++ (46 ∷ (y ++ (46 ∷ (z ++ (46 ∷ w)))))
 parted x y z w = simp append_assoc
 
-pieces_four : (x y z w : List ℕ) → Lacks 46 x → Lacks 46 y → Lacks 46 z → Lacks 46 w → pieces 46 (x ++ (46 ∷ (y ++ (46 ∷ (z ++ (46 ∷ w)))))) ≡ x ∷ y ∷ z ∷ w ∷ []
+pieces_four : (x y z w : List ℕ) → Lacks 46 x → Lacks 46 y → Lacks 46 z → Lacks 46 w → split_at 46 (x ++ (46 ∷ (y ++ (46 ∷ (z ++ (46 ∷ w)))))) ≡ x ∷ y ∷ z ∷ w ∷ []
 pieces_four x y z w hx hy hz hw =
     pieces_more 46 x _ hx ∙ ap (λ ps. x ∷ ps) (pieces_more 46 y _ hy ∙ ap (λ ps. y ∷ ps) (pieces_more 46 z w hz ∙ ap (λ ps. z ∷ ps) (pieces_one 46 w hw)))
 
@@ -85,7 +85,7 @@ unfolding octets
 octets_complete text o h =
     let (fa, fb, fc, fd) = h.fit in
     let ps = pieces_four (decimal h.a) (decimal h.b) (decimal h.c) (decimal h.d) (lacks_dot h.a fa) (lacks_dot h.b fb) (lacks_dot h.c fc) (lacks_dot h.d fd) in
-    let shown : pieces 46 text ≡ decimal h.a ∷ decimal h.b ∷ decimal h.c ∷ decimal h.d ∷ [] = ap (pieces 46) (h.spelled ∙ parted (decimal h.a) (decimal h.b) (decimal h.c) (decimal h.d)) ∙ ps in
+    let shown : split_at 46 text ≡ decimal h.a ∷ decimal h.b ∷ decimal h.c ∷ decimal h.d ∷ [] = ap (split_at 46) (h.spelled ∙ parted (decimal h.a) (decimal h.b) (decimal h.c) (decimal h.d)) ∙ ps in
     ap (λ x. each octet x >>= counted 4) shown ∙ ap (λ x. x >>= counted 4) (each_four h.a h.b h.c h.d fa fb fc fd) ∙ ap Some (sym h.value)
 
 -- it has dots, and else no byte that is no digit

@@ -3,7 +3,8 @@ use Rattle.std.proofs.Common.{◌≡◌, ◌≢◌, ℕ, ◌<◌, ◌≤◌, ◌
 use Rattle.std.proofs.lemmas.Option.{none-some}
 use Rattle.std.specs.Char.{digit_value}
 use Rattle.std.specs.Str.Parse.{AllDigits}
-use Rattle.ty_net.specs.Addresses.{◌>>=◌, pieces, on_first}
+use Rattle.std.specs.List.{onto_first}
+use Rattle.ty_net.specs.Addresses.{◌>>=◌, split_at}
 
 -- the byte c stands nowhere in the text
 abbrev pub Lacks : ℕ → List ℕ → Type 0
@@ -29,25 +30,25 @@ lacks_digits radix c (d ∷ ds) h k = (
     not_below v w r e l g = omega arith
 
 -- a text that lacks c is one piece, and goes up to the first c
-pub pieces_one : (c : ℕ) (p : List ℕ) → Lacks c p → pieces c p ≡ p ∷ []
+pub pieces_one : (c : ℕ) (p : List ℕ) → Lacks c p → split_at c p ≡ p ∷ []
 pieces_one c [] h = refl
 pieces_one c (b ∷ p) h = rw (ne_eqb b c h.0, pieces_one c p h.1)
 
-pub pieces_more : (c : ℕ) (p rest : List ℕ) → Lacks c p → pieces c (p ++ c ∷ rest) ≡ p ∷ pieces c rest
+pub pieces_more : (c : ℕ) (p rest : List ℕ) → Lacks c p → split_at c (p ++ c ∷ rest) ≡ p ∷ split_at c rest
 pieces_more c [] rest h = rw (eq-eqb c c refl)
 pieces_more c (b ∷ p) rest h = rw (ne_eqb b c h.0, pieces_more c p rest h.1)
 
 -- there is a first piece
-on_first_some : (b : ℕ) (ps : List (List ℕ)) → (q : List ℕ) × (qs : List (List ℕ)) × (on_first b ps ≡ q ∷ qs)
+on_first_some : (b : ℕ) (ps : List (List ℕ)) → (q : List ℕ) × (qs : List (List ℕ)) × (onto_first b ps ≡ q ∷ qs)
 on_first_some b [] = (b ∷ [], [], refl)
 on_first_some b (p ∷ ps) = (b ∷ p, ps, refl)
 
-pub some_piece : (c : ℕ) (text : List ℕ) → (q : List ℕ) × (qs : List (List ℕ)) × (pieces c text ≡ q ∷ qs)
+pub some_piece : (c : ℕ) (text : List ℕ) → (q : List ℕ) × (qs : List (List ℕ)) × (split_at c text ≡ q ∷ qs)
 some_piece c [] = ([], [], refl)
 some_piece c (b ∷ text) =
-    elim (b == c) as (λ v. (q : List ℕ) × (qs : List (List ℕ)) × (cond v ([] ∷ pieces c text) (on_first b (pieces c text)) ≡ q ∷ qs)) [
-      | true ↦ ([], pieces c text, refl)
-      | false ↦ on_first_some b (pieces c text)
+    elim (b == c) as (λ v. (q : List ℕ) × (qs : List (List ℕ)) × (cond v ([] ∷ split_at c text) (onto_first b (split_at c text)) ≡ q ∷ qs)) [
+      | true ↦ ([], split_at c text, refl)
+      | false ↦ on_first_some b (split_at c text)
     ]
 
 -- pieces with c between each two
@@ -59,21 +60,21 @@ abbrev pub joined : ℕ → List (List ℕ) → List ℕ
 joined c [] = []
 joined c (p ∷ ps) = p ++ tails c ps
 
-joined-on_first : (c b : ℕ) (ps : List (List ℕ)) → joined c (on_first b ps) ≡ b ∷ joined c ps
+joined-on_first : (c b : ℕ) (ps : List (List ℕ)) → joined c (onto_first b ps) ≡ b ∷ joined c ps
 joined-on_first c b [] = refl
 joined-on_first c b (p ∷ ps) = refl
 
 joined_empty : (c : ℕ) (ps qs : List (List ℕ)) (q : List ℕ) → ps ≡ q ∷ qs → joined c ([] ∷ ps) ≡ c ∷ joined c ps
 joined_empty c ps qs q e = rw e refl
 
-pub joined-pieces : (c : ℕ) (text : List ℕ) → joined c (pieces c text) ≡ text
+pub joined-pieces : (c : ℕ) (text : List ℕ) → joined c (split_at c text) ≡ text
 joined-pieces c [] = refl
 joined-pieces c (b ∷ text) =
-    elim (b == c) as (λ v. (b == c) ≡ v → joined c (cond v ([] ∷ pieces c text) (on_first b (pieces c text))) ≡ b ∷ text) [
+    elim (b == c) as (λ v. (b == c) ≡ v → joined c (cond v ([] ∷ split_at c text) (onto_first b (split_at c text))) ≡ b ∷ text) [
       | true ↦ λ t.
           let s = some_piece c text in
-          joined_empty c (pieces c text) s.1 s.0 s.2 ∙ ap (λ x. c ∷ x) (joined-pieces c text) ∙ ap (λ x. x ∷ text) (sym (eqb-true b c t))
-      | false ↦ λ t. joined-on_first c b (pieces c text) ∙ ap (λ x. b ∷ x) (joined-pieces c text)
+          joined_empty c (split_at c text) s.1 s.0 s.2 ∙ ap (λ x. c ∷ x) (joined-pieces c text) ∙ ap (λ x. x ∷ text) (sym (eqb-true b c t))
+      | false ↦ λ t. joined-on_first c b (split_at c text) ∙ ap (λ x. b ∷ x) (joined-pieces c text)
     ] refl
 
 -- what a chain went through

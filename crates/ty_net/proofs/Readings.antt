@@ -13,15 +13,15 @@ use Rattle.std.specs.Net.Grammar.{IsDotted, IsGroups, IsElided, IsColonHex, IsIp
 use Rattle.ty_base.specs.Numbers.{read_number}
 use Rattle.ty_net.specs.declared.address.Ip.{Ip}
 use Rattle.ty_net.specs.declared.address.Ip.TheVariants.{V4, V6}
-use Rattle.ty_net.specs.Addresses.{◌>>=◌, pieces, counted, octet, octets, group, groups, side, halves, filled, eight_by, eight_groups, ip_of}
+use Rattle.ty_net.specs.Addresses.{◌>>=◌, split_at, counted, octet, octets, hex_group, groups, side, halves, expanded, eight_by, eight_groups, ip_of}
 use Rattle.ty_net.specs.Grammar.{IsIp}
 use Rattle.ty_net.proofs.Pieces.{joined-pieces, bind_some}
 use Rattle.ty_net.proofs.Octets.{octets_sound, octets_complete}
 use Rattle.ty_net.proofs.Groups.{groups_complete, groups_sound}
 use Rattle.ty_net.proofs.Halves.{halves_sound, halves_none, halves_complete}
 
-side_more : (dotted : Bool) (text : List ℕ) (s : ℕ) (ss : List ℕ) → groups dotted (pieces 58 text) ≡ Some (s ∷ ss) → side dotted text ≡ Some (s ∷ ss)
-unfolding group octets octet read_number
+side_more : (dotted : Bool) (text : List ℕ) (s : ℕ) (ss : List ℕ) → groups dotted (split_at 58 text) ≡ Some (s ∷ ss) → side dotted text ≡ Some (s ∷ ss)
+unfolding hex_group octets octet read_number
 side_more false [] s ss e = absurd (none-some _ e)
 side_more true [] s ss e = absurd (none-some _ e)
 side_more dotted (b ∷ text) s ss e = e
@@ -30,9 +30,9 @@ side_complete : (dotted : Bool) (segments text : List ℕ) → IsGroups dotted t
 side_complete dotted [] text h = ap (side dotted) h
 side_complete dotted (s ∷ segments) text h = side_more dotted text s segments (groups_complete dotted segments s text h)
 
-groups_are : (dotted : Bool) (text ss : List ℕ) → groups dotted (pieces 58 text) ≡ Some ss → IsGroups dotted text ss
+groups_are : (dotted : Bool) (text ss : List ℕ) → groups dotted (split_at 58 text) ≡ Some ss → IsGroups dotted text ss
 groups_are dotted text ss e =
-    let (s, rest, are, spelled) = groups_sound dotted (pieces 58 text) ss e in
+    let (s, rest, are, spelled) = groups_sound dotted (split_at 58 text) ss e in
     let Q : List ℕ → Type 0 = λ t. IsGroups dotted t (s ∷ rest) in
     subst (λ l. IsGroups dotted text l) (sym are) (subst Q (joined-pieces 58 text) spelled)
 
@@ -48,7 +48,7 @@ whole_complete text (s ∷ segments) h l =
     ∙ ap (λ o. o >>= counted 8) (groups_complete true segments s text h)
     ∙ rw (eq-eqb (length (s ∷ segments)) 8 l) refl
 
-filled_some : (head tail : List ℕ) → length head + length tail < 8 → filled head tail ≡ Some (head ++ replicate (8 - length head - length tail) 0 ++ tail)
+filled_some : (head tail : List ℕ) → length head + length tail < 8 → expanded head tail ≡ Some (head ++ replicate (8 - length head - length tail) 0 ++ tail)
 filled_some head tail h = rw (lt-ltb (length head + length tail) 8 h) refl
 
 elided_complete : (text segments : List ℕ) → IsElided text segments → eight_groups text ≡ Some segments
@@ -56,8 +56,8 @@ unfolding eight_groups
 elided_complete text segments h =
     let shown : text ≡ h.head_text ++ (58 ∷ 58 ∷ h.tail_text) = h.spelled ∙ append_assoc h.head_text (58 ∷ 58 ∷ []) h.tail_text in
     ap (eight_by text) (ap halves shown ∙ halves_complete false h.head h.head_text h.tail_text h.head_groups)
-    ∙ ap (λ o. o >>= λ x. side true h.tail_text >>= λ y. filled x y) (side_complete false h.head h.head_text h.head_groups)
-    ∙ ap (λ o. o >>= λ y. filled h.head y) (side_complete true h.tail h.tail_text h.tail_groups)
+    ∙ ap (λ o. o >>= λ x. side true h.tail_text >>= λ y. expanded x y) (side_complete false h.head h.head_text h.head_groups)
+    ∙ ap (λ o. o >>= λ y. expanded h.head y) (side_complete true h.tail h.tail_text h.tail_groups)
     ∙ filled_some h.head h.tail h.room ∙ ap Some (sym h.value)
 
 pub eight_complete : (text segments : List ℕ) → IsColonHex text segments → eight_groups text ≡ Some segments
@@ -66,7 +66,7 @@ eight_complete text segments (inr h) = elided_complete text segments h
 
 by_halves : (text segments : List ℕ) (o : Option (List ℕ × List ℕ)) → halves text ≡ o → eight_by text o ≡ Some segments → IsColonHex text segments
 by_halves text segments None found e =
-    let (gs, read, kept) = bind_some (groups true (pieces 58 text)) (counted 8) segments e in
+    let (gs, read, kept) = bind_some (groups true (split_at 58 text)) (counted 8) segments e in
     let (count, same) = cond_some _ gs segments kept in
     let whole : IsGroups true text gs × (length gs ≡ 8) = (groups_are true text gs read, eqb-true (length gs) 8 count) in
     let P : List ℕ → Type 0 = λ l. IsColonHex text l in

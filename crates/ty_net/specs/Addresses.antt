@@ -1,7 +1,7 @@
 -- What the texts of addresses write: dotted decimal, and the forms of RFC 4291 section 2.2.
 use Rattle.std.specs.Prelude.{ℕ, ◌+◌, ◌-◌, Bool, true, false, ◌&&◌, ◌==◌, nat_le, nat_lt, if◌then◌else◌, List, [], ◌∷◌, ◌++◌, length, replicate, Option, None, Some}
 use Rattle.std.specs.Option.{option_map, option_or}
-use Rattle.std.specs.List.{list_all}
+use Rattle.std.specs.List.{list_all, slice_split}
 use Rattle.std.specs.Char.{is_digit}
 use Rattle.std.specs.Str.Parse.{digits_value}
 use Rattle.std.specs.Int.{w32, w128, from_be_bytes}
@@ -17,14 +17,9 @@ None >>= f = None
 
 -- Pieces
 
-abbrev pub on_first : ℕ → List (List ℕ) → List (List ℕ)
-on_first b [] = (b ∷ []) ∷ []
-on_first b (p ∷ ps) = (b ∷ p) ∷ ps
-
 -- what stands between the bytes c, one piece more than there are such bytes
-abbrev pub pieces : ℕ → List ℕ → List (List ℕ)
-pieces c [] = [] ∷ []
-pieces c (b ∷ text) = if b == c then [] ∷ pieces c text else on_first b (pieces c text)
+abbrev pub split_at : ℕ → List ℕ → List (List ℕ)
+split_at c text = slice_split (λ b. b == c) text
 
 -- the numbers that pieces write, where each writes one
 abbrev pub each : (List ℕ → Option ℕ) → List (List ℕ) → Option (List ℕ)
@@ -53,34 +48,34 @@ octet text = do
 -- four of them, parted by `.`
 unfoldable pub octets : List ℕ → Option (List ℕ)
 octets text = do
-  ns ← each octet (pieces 46 text)
+  ns ← each octet (split_at 46 text)
   counted 4 ns
 
 -- IPv6
 
 -- one to four hexadecimal digits in either case
-unfoldable pub group : List ℕ → Option ℕ
-group text =
+unfoldable pub hex_group : List ℕ → Option ℕ
+hex_group text =
     if (list_all (λ b. is_digit b 16) text && nat_le 1 (length text)) && nat_le (length text) 4
     then Some (digits_value 16 text) else None
 
 -- a last piece is one group, or where dotted decimal may stand also two groups in dotted decimal
 abbrev pub last_groups : Bool → List ℕ → Option (List ℕ)
-last_groups false text = option_map (λ g. g ∷ []) (group text)
-last_groups true text = option_or (option_map (λ g. g ∷ []) (group text)) (option_map segments_of (octets text))
+last_groups false text = option_map (λ g. g ∷ []) (hex_group text)
+last_groups true text = option_or (option_map (λ g. g ∷ []) (hex_group text)) (option_map segments_of (octets text))
 
 abbrev pub groups : Bool → List (List ℕ) → Option (List ℕ)
 groups dotted [] = None
 groups dotted (p ∷ []) = last_groups dotted p
 groups dotted (p ∷ q ∷ ps) = do
-  g ← group p
+  g ← hex_group p
   gs ← groups dotted (q ∷ ps)
   Some (g ∷ gs)
 
 -- what stands on one side of `::`: nothing, or groups parted by `:`
 abbrev pub side : Bool → List ℕ → Option (List ℕ)
 side dotted [] = Some []
-side dotted (b ∷ text) = groups dotted (pieces 58 (b ∷ text))
+side dotted (b ∷ text) = groups dotted (split_at 58 (b ∷ text))
 
 -- what stands before and after the first `::`
 abbrev pub halves : List ℕ → Option (List ℕ × List ℕ)
@@ -90,20 +85,20 @@ halves (a ∷ b ∷ text) =
     if (a == 58) && (b == 58) then Some ([], text) else option_map (λ h. (a ∷ h.0, h.1)) (halves (b ∷ text))
 
 -- eight groups, with one zero or more in the place of `::`
-abbrev pub filled : List ℕ → List ℕ → Option (List ℕ)
-filled head tail =
+abbrev pub expanded : List ℕ → List ℕ → Option (List ℕ)
+expanded head tail =
     if nat_lt (length head + length tail) 8
     then Some (head ++ replicate (8 - length head - length tail) 0 ++ tail) else None
 
 -- the eight groups of a text, by its halves where it has `::`
 abbrev pub eight_by : List ℕ → Option (List ℕ × List ℕ) → Option (List ℕ)
 eight_by text None = do
-  gs ← groups true (pieces 58 text)
+  gs ← groups true (split_at 58 text)
   counted 8 gs
 eight_by text (Some h) = do
   head ← side false h.0
   tail ← side true h.1
-  filled head tail
+  expanded head tail
 
 unfoldable pub eight_groups : List ℕ → Option (List ℕ)
 eight_groups text = eight_by text (halves text)

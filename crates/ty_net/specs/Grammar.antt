@@ -1,11 +1,12 @@
 -- Which texts write an address, a network or ports, as relations: here a text is put together from its parts.
-use Rattle.std.specs.Prelude.{◌≡◌, ℕ, ◌^◌, ◌<◌, ◌≤◌, ◌⊎◌, List, ◌++◌, codes, decimal}
+use Rattle.std.specs.Prelude.{◌≡◌, ℕ, ◌≤◌, ◌⊎◌, List, ◌++◌, codes, decimal}
 use Rattle.std.specs.Int.{w32, w128, from_be_bytes}
 use Rattle.std.specs.Net.Addr.{octets_of}
 use Rattle.std.specs.Net.Grammar.{IsDotted, IsColonHex}
 use Rattle.ty_net.specs.declared.address.Ip.{Ip}
 use Rattle.ty_net.specs.declared.address.Ip.TheVariants.{V4, V6}
 use Rattle.ty_net.specs.declared.cidr.Cidr.{Cidr}
+use Rattle.ty_net.specs.declared.ports.TheConstants.{GREATEST_PORT}
 use Rattle.ty_net.specs.declared.ports.PortRange.{PortRange}
 use Rattle.ty_net.specs.Cidrs.{bits_of}
 
@@ -36,13 +37,13 @@ pub record IsCidr (text : List ℕ) (c : Cidr) : Type 0 where
 
 -- the decimal digits of two ports with `:` between them
 pub record IsPair (text : List ℕ) (n m : ℕ) : Type 0 where
-  pub first : n < 2 ^ 16
-  pub second : m < 2 ^ 16
+  pub first : n ≤ GREATEST_PORT
+  pub second : m ≤ GREATEST_PORT
   pub spelled : text ≡ decimal n ++ codes ":" ++ decimal m
 
 -- the decimal digits of a port
 pub record IsPort (text : List ℕ) (n : ℕ) : Type 0 where
-  pub fits : n < 2 ^ 16
+  pub fits : n ≤ GREATEST_PORT
   pub spelled : text ≡ decimal n
 
 -- two ports of which the second isn't below the first, or one that is both

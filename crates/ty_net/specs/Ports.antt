@@ -3,16 +3,17 @@ use Rattle.std.specs.Prelude.{ℕ, ◌==◌, nat_lt, if◌then◌else◌, List, 
 use Rattle.std.specs.List.{list_any, before_first, after_first}
 use Rattle.std.specs.Result.{result_ok}
 use Rattle.ty_base.specs.Numbers.{read_number}
+use Rattle.ty_net.specs.declared.ports.TheConstants.{GREATEST_PORT}
 use Rattle.ty_net.specs.declared.ports.PortRange.{PortRange}
 use Rattle.ty_net.specs.declared.fault.NetFault.{NetFault}
 use Rattle.ty_net.specs.declared.fault.NetFault.TheVariants.{BadPort, Reversed}
 use Rattle.ty_net.specs.Addresses.{◌>>=◌, up_to}
 
--- a decimal number from 0 to 65,535
+-- a decimal number from 0 to the greatest port
 abbrev pub port_of : List ℕ → Option ℕ
 port_of text = do
   n ← read_number text
-  up_to 65535 n
+  up_to GREATEST_PORT n
 
 abbrev pub range_of : Option ℕ → Option ℕ → Result PortRange NetFault
 range_of (Some n) (Some m) =

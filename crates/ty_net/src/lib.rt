@@ -17,4 +17,4 @@ pub use laws::{
     addresses_are_those_of_the_grammar, networks_are_those_of_the_grammar,
     ports_are_those_of_the_grammar,
 };
-pub use ports::{PortRange, read_ports};
+pub use ports::{GREATEST_PORT, PortRange, read_ports};

@@ -6,6 +6,9 @@ use crate::cut::{after, before};
 use crate::fault::NetFault;
 use ty_base::read_u64;
 
+/// The greatest number of a port.
+pub const GREATEST_PORT: u64 = 65_535;
+
 /// The ports from `low` to `high`, both of them counted.
 #[derive(Clone, Copy, Debug, PartialEq, Eq)]
 pub struct PortRange {
@@ -14,7 +17,7 @@ pub struct PortRange {
 }
 
 /// A port, or two with `:` between, in decimal without leading zeros. `BadPort` exactly where the text has
-/// another form or a number above 65,535. `Reversed` exactly where the form is good and the first port is
+/// another form or a number above `GREATEST_PORT`. `Reversed` exactly where the form is good and the first port is
 /// above the second; it holds both as they stand.
 pub fn read_ports(text: &[u8]) -> Result<PortRange, NetFault>
     ensures { result ≡ ports_reading text.now }
@@ -39,7 +42,7 @@ fn ports_between(first: &[u8], last: &[u8]) -> Result<PortRange, NetFault>
     Ok(PortRange { low, high })
 }
 
-// The number from 0 to 65,535 that a text writes.
+// The number up to `GREATEST_PORT` that a text writes.
 fn read_port(text: &[u8]) -> Option<u16>
     ensures { result ≡ port_of text.now }
 {

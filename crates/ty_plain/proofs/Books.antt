@@ -8,7 +8,7 @@ use Rattle.ty_base.specs.declared.item.Item.{Item}
 use Rattle.ty_base.specs.declared.entry.Entry.{Entry}
 use Rattle.ty_base.specs.Feed.{is_closing, closings, cuts, cut, last, world, last_of, entry, book, changes, firsts, key_of, cuts_after, deltas, replay}
 use Rattle.ty_base.proofs.Cuts.{Follows, follow_at, all_follow}
-use Rattle.ty_plain.specs.Scans.{last_before, entry_between, IsRising}
+use Rattle.ty_plain.specs.steps.Scans.{last_before, entry_between, NeverFall}
 
 last_of_more : (xs : List ℕ) (d x : ℕ) → last_of d (xs ++ x ∷ []) ≡ x
 last_of_more [] d x = refl
@@ -53,7 +53,7 @@ rises_at [] low high k r h = absurd (omega arith)
 rises_at (p ∷ ps) low high zero r h = (r.0, r.1)
 rises_at (p ∷ ps) low high (suc k) r h = rises_at ps p high k r.2 (omega arith)
 
-pub closings_rise : (ended : Bool) (items : List Item) → IsRising 0 (length items) (closings ended items)
+pub closings_rise : (ended : Bool) (items : List Item) → NeverFall 0 (length items) (closings ended items)
 unfolding cuts_after cuts closings book deltas replay
 closings_rise ended items k h = rises_at (closings ended items) 0 (length items) k (rises_filter (is_closing ended items) (length items) 1 0 (length items) (omega arith) (omega arith)) h
 

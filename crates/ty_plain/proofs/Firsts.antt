@@ -12,7 +12,7 @@ use Rattle.ty_base.specs.declared.item.Item.{Item}
 use Rattle.ty_base.specs.declared.item.Item.TheVariants.{Put, Del, State, Mark}
 use Rattle.ty_base.specs.Feed.{Pairs, key_of, firsts, change, changes}
 use Rattle.ty_base.specs.Readings.{is_about}
-use Rattle.ty_plain.specs.Scans.{fresh}
+use Rattle.ty_plain.specs.steps.Scans.{unseen_change}
 
 any_keys : (k : List ℕ) (items : List Item) → list_any (bytes_eq k) (filter_map key_of items) ≡ list_any (is_about k) items
 any_keys k [] = refl
@@ -39,7 +39,7 @@ fresh_is : (a b : Pairs) (earlier : List Item) (k : List ℕ) (t : Bool) → lis
 fresh_is a b earlier k true e = refl
 fresh_is a b earlier k false e = elim (change k (get a k) (get b k)) as (λ o. cons_option o [] ≡ option_to_list o) [ None ↦ refl | Some d ↦ refl ]
 
-pub changes_push : (a b : Pairs) (earlier : List Item) (k : List ℕ) → changes a b (firsts (filter_map key_of earlier ++ k ∷ [])) ≡ changes a b (firsts (filter_map key_of earlier)) ++ fresh a b earlier k
+pub changes_push : (a b : Pairs) (earlier : List Item) (k : List ℕ) → changes a b (firsts (filter_map key_of earlier ++ k ∷ [])) ≡ changes a b (firsts (filter_map key_of earlier)) ++ unseen_change a b earlier k
 changes_push a b earlier k =
     ap (changes a b) (firsts_push (filter_map key_of earlier) k)
     ∙ filter_map-append (λ q. change q (get a q) (get b q)) (firsts (filter_map key_of earlier)) (cond (list_any (bytes_eq k) (filter_map key_of earlier)) [] (k ∷ []))
@@ -50,7 +50,7 @@ keys_more : (batch : List Item) (i : ℕ) (x : Item) → i < length batch → x 
 keys_more batch i x h e = ap (filter_map key_of) (take_more batch i x h) ∙ filter_map-append key_of (take i batch) _ ∙ ap (λ y. filter_map key_of (take i batch) ++ cons_option (key_of y) []) (sym e)
 
 pub step_some : (a b : Pairs) (batch : List Item) (i : ℕ) (x : Item) (k : List ℕ) → i < length batch → x ≡ get_or batch i x → key_of x ≡ Some k
-    → changes a b (firsts (filter_map key_of (take (i + 1) batch))) ≡ changes a b (firsts (filter_map key_of (take i batch))) ++ fresh a b (take i batch) k
+    → changes a b (firsts (filter_map key_of (take (i + 1) batch))) ≡ changes a b (firsts (filter_map key_of (take i batch))) ++ unseen_change a b (take i batch) k
 step_some a b batch i x k h e s =
     ap (λ ks. changes a b (firsts ks)) (keys_more batch i x h e ∙ ap (λ o. filter_map key_of (take i batch) ++ cons_option o []) s) ∙ changes_push a b (take i batch) k
 

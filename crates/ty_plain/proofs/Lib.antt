@@ -1,4 +1,4 @@
-pub mod Steps
-pub mod Compare
-pub mod Firsts
 pub mod Books
+pub mod Firsts
+pub mod Steps
+pub mod Worlds

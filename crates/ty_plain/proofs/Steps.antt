@@ -7,7 +7,7 @@ use Rattle.std.proofs.lemmas.List.Sums.{suffix_len-take_yes, suffix_len-take_no,
 use Rattle.ty_base.specs.declared.item.Item.{Item}
 use Rattle.ty_base.specs.declared.item.Item.TheVariants.{Put, Del, State, Mark}
 use Rattle.ty_base.specs.Feed.{World, get, start, folded, after, is_update}
-use Rattle.ty_plain.specs.Scans.{said}
+use Rattle.ty_plain.specs.steps.Scans.{value_behind}
 use Rattle.ty_base.proofs.Cuts.{range_split}
 use Rattle.ty_base.proofs.Pairs.{get-put_value}
 
@@ -35,7 +35,7 @@ run_more items i x h e =
 
 pub ruleset run_steps = (closings_more, run_more)
 
-pub value_after : (w : World) (x : Item) (q : List ℕ) → get (after w x).pairs q ≡ said q x (get w.pairs q)
+pub value_after : (w : World) (x : Item) (q : List ℕ) → get (after w x).pairs q ≡ value_behind q x (get w.pairs q)
 value_after w (Put k v) q = get-put_value w.pairs k (Some v) q
 value_after w (Del k) q = get-put_value w.pairs k None q
 value_after w (State s) q = refl
@@ -46,5 +46,5 @@ pub ruleset value_steps = (value_after)
 pub world_step : (items : List Item) (i : ℕ) (x : Item) → i < length items → x ≡ get_or items i x → folded (take (i + 1) items) ≡ after (folded (take i items)) x
 world_step items i x h e = fold_more after start items i x h ∙ ap (after (folded (take i items))) (sym e)
 
-pub value_step : (items : List Item) (i : ℕ) (x : Item) (q : List ℕ) → i < length items → x ≡ get_or items i x → get (folded (take (i + 1) items)).pairs q ≡ said q x (get (folded (take i items)).pairs q)
+pub value_step : (items : List Item) (i : ℕ) (x : Item) (q : List ℕ) → i < length items → x ≡ get_or items i x → get (folded (take (i + 1) items)).pairs q ≡ value_behind q x (get (folded (take i items)).pairs q)
 value_step items i x q h e = ap (λ w. get w.pairs q) (world_step items i x h e) ∙ value_after (folded (take i items)) x q

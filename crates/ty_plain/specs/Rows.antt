@@ -1,11 +1,15 @@
 -- Small lists of items with the books that they are to have. Keys and values are single bytes.
-use Rattle.std.specs.Prelude.{ℕ, List, [], ◌∷◌, map, length}
+use Rattle.std.specs.Prelude.{ℕ, List, [], ◌∷◌, map, length, Some, refl}
 use Rattle.std.specs.List.{range_with_len}
 use Rattle.ty_base.specs.declared.item.Item.{Item}
 use Rattle.ty_base.specs.declared.item.Item.TheVariants.{Put, Del, State, Mark}
 use Rattle.ty_base.specs.declared.status.Status.TheVariants.{Wait, InSync}
+use Rattle.ty_base.specs.declared.delta.Delta.{Delta}
+use Rattle.ty_base.specs.declared.delta.Kind.TheVariants.{New}
 use Rattle.ty_base.specs.declared.entry.Entry.{Entry}
-use Rattle.ty_plain.specs.Scans.{added}
+
+abbrev pub added : List ℕ → List ℕ → Delta
+added k v = record { key = k; kind = New; value = Some v; told = refl }
 
 -- a key is put and the datastore is in sync, in one batch
 abbrev pub ready_and_in_sync : List Item

@@ -4,7 +4,8 @@ ghost use Rattle.std.specs.Option.{option_copied};
 ghost use Rattle.std.specs.List.{list_any, filter_map};
 ghost use Rattle.ty_base.specs.Feed as feed;
 ghost use Rattle.ty_base.specs.Readings.{is_about as speaks_of};
-ghost use Rattle.ty_plain.specs.Scans.{fresh, added, updated, deleted};
+ghost use Rattle.ty_plain.specs.steps.Scans.{unseen_change, updated, deleted};
+ghost use Rattle.ty_plain.specs.Rows.{added};
 
 use crate::world::value_of;
 use std::alloc::Global;
@@ -17,7 +18,9 @@ pub fn changes(
     after: &[Item],
     batch: &[Item],
 ) -> Result<Vec<Delta>, NoMemory>
-    ensures { IfOk result (λ v. v.items ≡ feed.changes (feed.folded before.now).pairs (feed.folded after.now).pairs (feed.firsts (filter_map feed.key_of batch.now))) }
+    ensures { IfOk result (λ v. v.items
+        ≡ feed.changes (feed.folded before.now).pairs (feed.folded after.now).pairs
+        (feed.firsts (filter_map feed.key_of batch.now))) }
 {
     let mut out = Vec::new(alloc);
     for (i, item) in batch.iter().enumerate() {
@@ -37,7 +40,9 @@ fn note_change(
     earlier: &[Item],
     key: &Text,
 ) -> Result<(), NoMemory>
-    ensures { OnOk result (out.new.items ≡ out.old.items ++ fresh (feed.folded before.now).pairs (feed.folded after.now).pairs earlier.now key.now) }
+    ensures { OnOk result (out.new.items
+        ≡ out.old.items
+        ++ unseen_change (feed.folded before.now).pairs (feed.folded after.now).pairs earlier.now key.now) }
 {
     if mentions(earlier, key) {
         return Ok(());
@@ -55,7 +60,8 @@ fn change(
     before: Option<&Text>,
     after: Option<&Text>,
 ) -> Result<Option<Delta>, NoMemory>
-    ensures { IfOk result (λ d. d ≡ feed.change key.now (option_copied before.entry) (option_copied after.entry)) }
+    ensures { IfOk result (λ d. d
+        ≡ feed.change key.now (option_copied before.entry) (option_copied after.entry)) }
 {
     match (before, after) {
         (None, None) => Ok(None),

@@ -4,10 +4,10 @@ ghost use Rattle.std.specs.List.{suffix_len};
 ghost use Rattle.ty_base.specs.Feed as feed;
 
 use std::alloc::Global;
-use ty_base::{Item, NoMemory};
+use ty_base::{BATCH_UPDATES, Item, NoMemory};
 
 /// The positions at which batches close, each the number of items up to and including the batch's last. A
-/// batch closes after an item that is no update, after its 100th update, and where the feed has ended.
+/// batch closes after an item that is no update, after as many updates as make one, and where the feed has ended.
 #[tactic(auto, using(crate::proofs::Steps::run_steps), unfolding(ty_base::specs::Feed::closings))]
 pub fn closings(alloc: Global, items: &[Item], ended: bool) -> Result<Vec<usize>, NoMemory>
     ensures { IfOk result (λ v. v.items ≡ feed.closings ended items.now) }
@@ -38,5 +38,5 @@ fn closes(items: &[Item], run: usize, at: usize, ended: bool) -> bool
     requires { run ≡ suffix_len feed.is_update (take at items.now) }
     ensures { result ≡ feed.is_closing ended items.now at }
 {
-    run % 100 == 0 || (ended && at == items.len())
+    run % BATCH_UPDATES == 0 || (ended && at == items.len())
 }

@@ -1,7 +1,7 @@
 // Where crumbs are published.
 ghost use Rattle.std.specs.Prelude.{◌≡◌, length, IfOk};
 ghost use Rattle.ty_base.specs.Feed as feed;
-ghost use Rattle.ty_plain.specs.Scans.{IsRising};
+ghost use Rattle.ty_plain.specs.steps.Scans.{NeverFall};
 
 use crate::closing::closings;
 use crate::world::same_worlds;
@@ -19,8 +19,12 @@ pub fn cuts(alloc: Global, items: &[Item], ended: bool) -> Result<Vec<usize>, No
 
 /// The cuts among positions that never fall.
 #[tactic(auto, unfolding(ty_base::specs::Feed::cuts_after))]
-pub fn cuts_among(alloc: Global, items: &[Item], closings: &[usize]) -> Result<Vec<usize>, NoMemory>
-    requires { IsRising 0 (length items.now) closings.now }
+pub(crate) fn cuts_among(
+    alloc: Global,
+    items: &[Item],
+    closings: &[usize],
+) -> Result<Vec<usize>, NoMemory>
+    requires { NeverFall 0 (length items.now) closings.now }
     ensures { IfOk result (λ v. v.items ≡ feed.cuts_after items.now 0 closings.now) }
 {
     let mut cuts = Vec::new(alloc);

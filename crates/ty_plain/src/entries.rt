@@ -1,7 +1,7 @@
 // The book of a list of items.
 ghost use Rattle.std.specs.Prelude.{◌≡◌, ◌≤◌, length, IfOk};
 ghost use Rattle.ty_base.specs.Feed as feed;
-ghost use Rattle.ty_plain.specs.Scans.{last_before, entry_between};
+ghost use Rattle.ty_plain.specs.steps.Scans.{last_before, entry_between};
 
 use crate::change::changes;
 use crate::closing::closings;

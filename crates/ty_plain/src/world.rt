@@ -3,7 +3,7 @@ ghost use Rattle.std.specs.Prelude.{◌≡◌, ◌≤◌, length};
 ghost use Rattle.std.specs.Option.{option_copied};
 ghost use Rattle.std.specs.List.{list_all};
 ghost use Rattle.ty_base.specs.Feed as feed;
-ghost use Rattle.ty_plain.specs.Scans.{said, same_option, agrees as agree_at};
+ghost use Rattle.ty_plain.specs.steps.Scans.{value_behind, same_option, agrees as agree_at};
 
 use ty_base::{Item, Status, Text, same_status};
 
@@ -21,7 +21,7 @@ pub fn value_of<'a>(items: &'a [Item], key: &Text) -> Option<&'a Text>
 
 // What a key has after one more item.
 fn heard<'a>(found: Option<&'a Text>, item: &'a Item, key: &Text) -> Option<&'a Text>
-    ensures { option_copied result ≡ said key.now item.now (option_copied found.entry) }
+    ensures { option_copied result ≡ value_behind key.now item.now (option_copied found.entry) }
 {
     match item {
         Item::Put { key: k, value } => if key.same(k) { Some(value) } else { found },

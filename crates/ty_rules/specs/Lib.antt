@@ -1,5 +1,5 @@
-pub mod Ascending
 pub mod Checks
 pub mod Parts
 pub mod Tests
 pub mod Texts
+pub mod Tree

@@ -1,11 +1,8 @@
 -- Parts that the values of several keys have.
 use Rattle.std.specs.Prelude.{[], ◌∷◌, codes}
-use Rattle.ty_rules.specs.Tests.{Test, object, text, text_of, array_of, object_of, required, all_of, any_of, whole_within}
-use Rattle.ty_rules.specs.Texts.{label_name, filled, port_name, protocol_name, protocol_with_ports}
-
--- an object of strings, each under the name of a label
-abbrev pub labels : Test
-labels = object_of label_name text
+use Rattle.ty_net.specs.declared.ports.TheConstants.{GREATEST_PORT}
+use Rattle.ty_rules.specs.Tests.{Test, object, text_of, array_of, required, all_of, any_of, whole_within}
+use Rattle.ty_rules.specs.Texts.{filled, port_name, protocol_name, protocol_with_ports}
 
 -- names of profiles, none of them empty
 abbrev pub profiles : Test
@@ -25,7 +22,7 @@ named_port = all_of (
     object
     ∷ required (codes "name") (text_of port_name)
     ∷ required (codes "protocol") has_ports
-    ∷ required (codes "port") (whole_within 1 65535)
+    ∷ required (codes "port") (whole_within 1 GREATEST_PORT)
     ∷ [])
 
 abbrev pub named_ports : Test

@@ -16,10 +16,6 @@ letter b = within 65 90 b || within 97 122 b
 abbrev pub name_byte : ℕ → Bool
 name_byte b = letter b || within 48 57 b || (b == 95) || (b == 46) || (b == 45)
 
--- one of those or `/`
-abbrev pub word_byte : ℕ → Bool
-word_byte b = name_byte b || (b == 47)
-
 abbrev pub hex_digit : ℕ → Bool
 hex_digit b = within 48 57 b || within 65 70 b || within 97 102 b
 
@@ -42,10 +38,6 @@ interface s = within 1 15 (length s) && list_all name_byte s
 -- an interface, or `*` for all of a host
 abbrev pub interface_or_all : TextTest
 interface_or_all s = interface s || one_of (codes "*" ∷ []) s
-
--- the name of a label
-abbrev pub label_name : TextTest
-label_name s = within 1 512 (length s) && list_all word_byte s
 
 abbrev pub port_name : TextTest
 port_name s = within 1 128 (length s) && list_all name_byte s && list_any letter s

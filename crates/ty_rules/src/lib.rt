@@ -11,14 +11,14 @@ mod text;
 mod tree;
 
 pub use check::{Check, Done, IfGiven, ListOf, Row, Then};
-pub use part::{HasPorts, IpVersion, Labels, NamedPorts, Profiles, Protocol};
+pub use part::{HasPorts, IpVersion, NamedPorts, Profiles, Protocol};
 pub use rule::{Rule, ValueFault};
 pub use test::{
     Anything, ArrayOf, Both, FilledArray, IsBool, IsObject, IsText, Nothing, Optional, Or,
     Required, Test, TextOf, TextTest, WhereAlso, Whole, WholeWithin, given, is_whole_within,
 };
 pub use text::{
-    Action, ActionOrEmpty, Filled, Interface, InterfaceOrAll, LabelName, Mac, PortName,
-    ProtocolName, ProtocolWithPorts, This,
+    Action, ActionOrEmpty, Filled, Interface, InterfaceOrAll, Mac, PortName, ProtocolName,
+    ProtocolWithPorts, This,
 };
 pub use tree::has_float;

@@ -1,35 +1,10 @@
 // Parts that the values of several keys have.
-ghost use Rattle.std.specs.Prelude.{◌≡◌, ◌&&◌};
-ghost use Rattle.std.specs.List.{list_all};
-ghost use Rattle.serde_json.specs.View.{members_view};
-ghost use Rattle.ty_rules.specs.Tests.{members, text};
-ghost use Rattle.ty_rules.specs.Texts.{label_name};
-ghost use Rattle.ty_rules.specs.Parts.{labels, profiles, protocol, has_ports, named_ports, ip_version};
+ghost use Rattle.ty_rules.specs.Parts.{profiles, protocol, has_ports, named_ports, ip_version};
 
 use crate::test::{ArrayOf, IsObject, Required, Test, TextOf, TextTest, WholeWithin};
-use crate::text::{Filled, LabelName, PortName, ProtocolName, ProtocolWithPorts};
-use serde_json::{Map, Value};
-
-/// An object of strings, each under the name of a label.
-#[derive(Drop)]
-pub struct Labels;
-
-impl Test for Labels {
-    ghost holds = { λ _. labels };
-
-    fn accepts(&self, value: &Value) -> bool {
-        match value.as_object() {
-            Some(map) => are_labels(map),
-            None => false,
-        }
-    }
-}
-
-fn are_labels(map: &Map<String, Value>) -> bool
-    ensures { result ≡ list_all (λ m. label_name m.0 && text m.1) (members (members_view map.now.entries)) }
-{
-    map.iter().all(|(name, value)| LabelName.takes(name.as_str()) && value.is_string())
-}
+use crate::text::{Filled, PortName, ProtocolName, ProtocolWithPorts};
+use serde_json::Value;
+use ty_net::GREATEST_PORT;
 
 /// An array of names of profiles, none of them empty.
 #[derive(Drop)]
@@ -85,7 +60,7 @@ impl Test for NamedPorts {
             IsObject,
             Required("name", TextOf(PortName)),
             Required("protocol", HasPorts),
-            Required("port", WholeWithin(1, 65_535)),
+            Required("port", WholeWithin(1, GREATEST_PORT)),
         ])
         .accepts(value)
     }

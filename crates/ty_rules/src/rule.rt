@@ -10,7 +10,7 @@ use ty_base::NoMemory;
 pub enum Rule {
     /// A number that is no whole number from -2^63 to 2^64 - 1.
     Number,
-    /// More than 1,048,576 bytes of compact text.
+    /// More than `VALUE_BYTES` bytes of compact text.
     Size,
     /// Neither true nor false.
     Ready,

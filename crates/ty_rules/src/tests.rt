@@ -1,8 +1,8 @@
 // Each kind of test and of rule once, over JSON texts.
 use crate::{
     Action, ActionOrEmpty, ArrayOf, Check, FilledArray, IfGiven, InterfaceOrAll, IpVersion, IsBool,
-    IsObject, IsText, Labels, ListOf, Mac, NamedPorts, Optional, Profiles, Protocol, Required, Row,
-    Rule, Test, TextOf, This, ValueFault, WhereAlso, Whole, WholeWithin, has_float,
+    IsObject, IsText, ListOf, Mac, NamedPorts, Optional, Profiles, Protocol, Required, Row, Rule,
+    Test, TextOf, This, ValueFault, WhereAlso, Whole, WholeWithin, has_float,
 };
 use serde_json::Value;
 use std::process::Abort;
@@ -18,7 +18,6 @@ fn broken(rt: &impl Abort, alloc: std::alloc::Global, text: &str) -> Option<Rule
         Row(Rule::Config, Optional("c", IsText)),
         Row(Rule::Icmp, Optional("d", TextOf(ActionOrEmpty))),
         Row(Rule::Interface, Optional("i", TextOf(InterfaceOrAll))),
-        Row(Rule::Labels, Optional("l", Labels)),
         Row(Rule::Mac, Optional("m", TextOf(Mac))),
         Row(Rule::Name, Required("n", TextOf(This("x")))),
         Row(Rule::Order, Optional("o", Whole)),
@@ -46,7 +45,7 @@ fn broken(rt: &impl Abort, alloc: std::alloc::Global, text: &str) -> Option<Rule
     }
 }
 
-const BROKEN: [(&str, Rule); 40] = [
+const BROKEN: [(&str, Rule); 36] = [
     ("[]", Rule::Shape),
     ("null", Rule::Shape),
     (r#"{"a":"drop"}"#, Rule::Action),
@@ -61,10 +60,6 @@ const BROKEN: [(&str, Rule); 40] = [
     (r#"{"i":"eth0/1"}"#, Rule::Interface),
     (r#"{"i":"sixteen-letters_"}"#, Rule::Interface),
     (r#"{"i":"**"}"#, Rule::Interface),
-    (r#"{"l":{"a b":"x"}}"#, Rule::Labels),
-    (r#"{"l":{"":"x"}}"#, Rule::Labels),
-    (r#"{"l":{"a":"x","b":null}}"#, Rule::Labels),
-    (r#"{"l":["a"]}"#, Rule::Labels),
     (r#"{"m":"ee:ee:ee:ee:ee"}"#, Rule::Mac),
     (r#"{"m":"ee:ee:ee:ee:ee:e"}"#, Rule::Mac),
     (r#"{"m":"ee-ee-ee-ee-ee-ee"}"#, Rule::Mac),
@@ -103,10 +98,10 @@ const BROKEN: [(&str, Rule); 40] = [
 
 const KEPT: [&str; 10] = [
     r#"{"n":"x"}"#,
-    r#"{"a":null,"b":null,"l":null,"m":null,"n":"x","o":null,"z":null,"y":[{}]}"#,
+    r#"{"a":null,"b":null,"m":null,"n":"x","o":null,"z":null,"y":[{}]}"#,
     r#"{"a":"next-tier","b":3,"c":"","d":"","i":"*","n":"x"}"#,
     r#"{"a":"Pass","b":5,"d":"log","i":"cali0a1b2c3d4e5","n":"x"}"#,
-    r#"{"l":{"app":"web","projectcalico.org/name":""},"m":"Ee:01:9a:BC:dF:00","n":"x","o":-9}"#,
+    r#"{"m":"Ee:01:9a:BC:dF:00","n":"x","o":-9}"#,
     r#"{"n":"x","o":18446744073709551615,"p":["kns.default"],"q":[]}"#,
     r#"{"n":"x","q":[{"name":"http","protocol":"SCTP","port":65535},{"name":"1.a_","protocol":132,"port":1}]}"#,
     r#"{"n":"x","r":[],"s":0}"#,

@@ -1,7 +1,7 @@
 // Tests of texts.
 ghost use Rattle.std.specs.Prelude.{◌≡◌, Bool, List, ℕ};
 ghost use Rattle.std.specs.List.{list_all, list_any};
-ghost use Rattle.ty_rules.specs.Texts.{this, within, name_byte, word_byte, interface, interface_or_all, label_name, filled, letter, port_name, hex_digit, hex_pairs, mac, protocol_name, protocol_with_ports, action, action_or_empty};
+ghost use Rattle.ty_rules.specs.Texts.{this, within, name_byte, interface, interface_or_all, filled, letter, port_name, hex_digit, hex_pairs, mac, protocol_name, protocol_with_ports, action, action_or_empty};
 
 use crate::test::TextTest;
 
@@ -23,22 +23,10 @@ fn is_name_byte(b: u8) -> bool
     is_letter(b) || matches!(b, b'0'..=b'9' | b'_' | b'.' | b'-')
 }
 
-fn is_word_byte(b: u8) -> bool
-    ensures { result ≡ word_byte b }
-{
-    is_name_byte(b) || b == b'/'
-}
-
 fn are_name_bytes(bytes: &[u8]) -> bool
     ensures { result ≡ list_all name_byte bytes.now }
 {
     bytes.iter().all(|b| is_name_byte(*b))
-}
-
-fn are_word_bytes(bytes: &[u8]) -> bool
-    ensures { result ≡ list_all word_byte bytes.now }
-{
-    bytes.iter().all(|b| is_word_byte(*b))
 }
 
 fn has_letter(bytes: &[u8]) -> bool
@@ -68,18 +56,6 @@ impl TextTest for InterfaceOrAll {
 
     fn takes(&self, text: &str) -> bool {
         Interface.takes(text) || text == "*"
-    }
-}
-
-/// The name of a label: 1 to 512 bytes out of letters, digits, `_`, `.`, `-` and `/`.
-#[derive(Drop)]
-pub struct LabelName;
-
-impl TextTest for LabelName {
-    ghost reads = { λ _. label_name };
-
-    fn takes(&self, text: &str) -> bool {
-        is_within(1, 512, text.len()) && are_word_bytes(text.as_bytes())
     }
 }
 

@@ -2,7 +2,7 @@
 ghost use Rattle.std.specs.Prelude.{◌≡◌, false};
 ghost use Rattle.serde_json.specs.Written.{has_float, items_have_float, members_have_float};
 ghost use Rattle.serde_json.specs.View.{view, items_view, members_view};
-ghost use Rattle.ty_rules.specs.Ascending.{Ascends, ItemsAscend, MembersAscend};
+ghost use Rattle.ty_rules.specs.Tree.{Ascends, ItemsAscend, MembersAscend};
 
 use serde_json::{Map, Value};
 

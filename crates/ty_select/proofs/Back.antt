@@ -1,182 +1,23 @@
 -- What is printed is read again.
-use Rattle.std.proofs.Common.{◌≡◌, ℕ, zero, suc, ◌+◌, ◌-◌, ◌≤◌, List, [], ◌∷◌, ◌++◌, length, drop, Bool, true, false, ◌==◌, ◌&&◌, ◌||◌, not, cond, Ok, Err, Option, codes, refl, sym, ap, ◌∙◌, subst, append_assoc, length-append, arith, ◌⊎◌, inl, inr, slice_index}
+use Rattle.std.proofs.Common.{◌≡◌, ℕ, zero, suc, ◌-◌, ◌≤◌, List, [], ◌∷◌, ◌++◌, length, drop, Bool, true, false, true≢false, ◌==◌, ◌&&◌, cond, Ok, Err, Option, codes, refl, sym, ap, ◌∙◌, append_assoc, length-append, arith, slice_index}
 use Rattle.std.proofs.lemmas.List.{append-nil}
-use Rattle.std.specs.List.{prefix_len, position_or_len, list_any, AllByRecursion}
-use Rattle.std.specs.Str.{IsUtf8, is_utf8, bytes_eq}
-use Rattle.std.proofs.Math.Seq.{take-append_seam, drop-append_seam}
-use Rattle.std.proofs.lemmas.Str.{IsUtf8-from_is_utf8}
+use Rattle.std.specs.List.{AllByRecursion}
+use Rattle.std.specs.Str.{bytes_eq}
+use Rattle.std.proofs.lemmas.Bool.{and_parts}
 use Rattle.std.proofs.lemmas.Bool.Decides.{nat_tests}
+use Rattle.ty_select.specs.declared.limits.TheConstants.{MOST_OPEN}
 use Rattle.ty_select.specs.declared.fault.Stop.TheVariants.{Bad}
-use Rattle.ty_select.specs.declared.fault.Wanted.{Wanted}
 use Rattle.ty_select.specs.declared.fault.Wanted.TheVariants as wanted
 use Rattle.ty_select.specs.declared.token.Kind.{Kind}
 use Rattle.ty_select.specs.declared.token.Kind.TheVariants as kind
 use Rattle.ty_select.specs.Forms.{Form, all, global, has, equal, unequal, among, not_among, contains, starts, ends, negated, both, either, Forms, none, more, forms_of}
 use Rattle.ty_select.specs.Printable.{IsLabel, IsQuotable, IsPrintable, ArePrintable}
-use Rattle.ty_select.specs.Printing.{quoted_text, listed, set_text, printed, parted, depth, deepest}
-use Rattle.ty_select.specs.Reading.{◌>>=◌, Read, mark, text, word, more_texts, texts, set, with_text, with_set, others, others_from, joined, operands, all_of, any_of, conjunction, disjunction, inside, unary, whole, from_the_front, selector_of, quoted, primary, test, tested, operator_of, constant, membership, unary_by, within, negation, grouped}
-use Rattle.ty_select.specs.Tokens.{Lexeme, lexeme, same_kind, is_blank, is_quote, is_word_byte, token_at, word_at, quoted_at, mark_at, nothing, width}
-use Rattle.ty_select.proofs.Lexing.{quoted_found, word_found}
+use Rattle.ty_select.specs.Text.{quoted_text, quoted_texts, set_text, printed, parted, depth, deepest}
+use Rattle.ty_select.specs.Expressions.{◌>>=◌, Read, mark, more_texts, texts, set, with_text, with_set, others, others_from, alone_or, operands, both_of, either_of, conjunction, disjunction, inside, unary, whole_text, from_the_front, selector_of, quoted, primary, test, tested, operator_of, constant, membership, unary_by, one_deeper, negation, grouped}
+use Rattle.ty_select.specs.Tokens.{Lexeme, lexeme, same_kind, width}
+use Rattle.ty_select.specs.Words.{is_word_byte}
 use Rattle.ty_select.proofs.Loops.{negation_read, group_read}
-
-one_plus : (m : ℕ) → 1 + m ≡ suc m
-one_plus m = omega arith
-
-seek : (q : ℕ) (v x : List ℕ) → (q == q) ≡ true → list_any (λ b. b == q) v ≡ false → position_or_len (λ b. b == q) (v ++ q ∷ x) ≡ length v
-seek q [] x h n = ap (λ t. cond (not t) (1 + position_or_len (λ b. b == q) x) 0) h
-seek q (b ∷ bs) x h n =
-    (elim (b == q) as (λ t. (t || list_any (λ c. c == q) bs) ≡ false → cond (not t) (1 + position_or_len (λ c. c == q) (bs ++ q ∷ x)) 0 ≡ suc (length bs)) [
-      | true ↦ λ e. absurd (cc)
-      | false ↦ λ e. ap (λ m. 1 + m) (seek q bs x h e) ∙ one_plus (length bs)
-    ]) n
-
-past : (q : ℕ) (v x : List ℕ) → drop (length v + 1) (v ++ q ∷ x) ≡ x
-past q [] x = refl
-past q (b ∷ bs) x =
-    let e : suc (length bs) + 1 ≡ suc (length bs + 1) = omega arith in
-    ap (λ n. drop n (b ∷ (bs ++ q ∷ x))) e ∙ past q bs x
-
-quoted_front : (q : ℕ) (v x : List ℕ) → (q == q) ≡ true → list_any (λ b. b == q) v ≡ false → is_utf8 v ≡ true
-    → quoted_at (q ∷ (v ++ q ∷ x)) q ≡ record { kind = kind.Quoted; here = q ∷ (v ++ q ∷ x); text = v; rest = x }
-quoted_front q v x h n u =
-    let t = take-append_seam v (q ∷ x) in
-    quoted_found (q ∷ (v ++ q ∷ x)) (v ++ q ∷ x) q (length v) refl (sym (seek q v x h n)) (omega (arith, length-append v (q ∷ x))) (subst IsUtf8 (sym t) (IsUtf8-from_is_utf8 v u))
-    ∙ (λ i. record { kind = kind.Quoted; here = q ∷ (v ++ q ∷ x); text = t i; rest = past q v x i })
-
-letters : (l x : List ℕ) (c : ℕ) → AllByRecursion (λ b. is_word_byte b ≡ true) l → is_word_byte c ≡ false → prefix_len is_word_byte (l ++ c ∷ x) ≡ length l
-letters [] x c a h = ap (λ t. cond t (1 + prefix_len is_word_byte x) 0) h
-letters (b ∷ bs) x c a h = ap (λ t. cond t (1 + prefix_len is_word_byte (bs ++ c ∷ x)) 0) a.0 ∙ ap (λ n. 1 + n) (letters bs x c a.1 h) ∙ one_plus (length bs)
-
-not_blank : (b : ℕ) → is_word_byte b ≡ true → is_blank b ≡ false
-not_blank b h = grind (arith, nat_tests)
-
-not_empty : (n : ℕ) → (suc n == 0) ≡ false
-not_empty n = grind (arith, nat_tests)
-
--- the first token of a text that isn't empty
-first_token : (b : ℕ) (x : List ℕ) → is_blank b ≡ false → lexeme (b ∷ x) ≡ cond (is_word_byte b) (word_at (b ∷ x)) (cond (is_quote b) (quoted_at (b ∷ x) b) (mark_at (b ∷ x)))
-unfolding lexeme
-first_token b x h =
-    ap (λ t. token_at (drop (cond t (1 + prefix_len is_blank x) 0) (b ∷ x))) h
-    ∙ ap (λ t. cond t (nothing kind.End (b ∷ x)) (cond (is_word_byte b) (word_at (b ∷ x)) (cond (is_quote b) (quoted_at (b ∷ x) b) (mark_at (b ∷ x))))) (not_empty (length x))
-
--- a blank in front
-behind_blank : (x : List ℕ) → lexeme (32 ∷ x) ≡ lexeme x
-unfolding lexeme
-behind_blank x = ap (λ n. token_at (drop n (32 ∷ x))) (one_plus (prefix_len is_blank x))
-
-word_front : (l x : List ℕ) (c : ℕ) → IsLabel l → is_word_byte c ≡ false → lexeme (l ++ c ∷ x) ≡ record { kind = kind.Word; here = l ++ c ∷ x; text = l; rest = c ∷ x }
-word_front [] x c h k = absurd h
-word_front (b ∷ bs) x c h k =
-    let here = b ∷ (bs ++ c ∷ x) in
-    first_token b (bs ++ c ∷ x) (not_blank b h.0.0)
-    ∙ ap (λ t. cond t (word_at here) (cond (is_quote b) (quoted_at here b) (mark_at here))) h.0.0
-    ∙ word_found here (length (b ∷ bs)) (sym (letters (b ∷ bs) x c h.0 k)) h.1
-    ∙ (λ i. record { kind = kind.Word; here = here; text = take-append_seam (b ∷ bs) (c ∷ x) i; rest = drop-append_seam (b ∷ bs) (c ∷ x) i })
-
--- a quoted text behind a blank
-pub quoted_token : (v x : List ℕ) → IsQuotable v → (h : List ℕ) × (lexeme (quoted_text v ++ x) ≡ record { kind = kind.Quoted; here = h; text = v; rest = x })
-unfolding quoted_text
-quoted_token v x h =
-    (elim (list_any (λ b. b == 39) v) as (λ t. list_any (λ b. b == 39) v ≡ t
-    → (h : List ℕ) × (lexeme (cond t (34 ∷ (v ++ 34 ∷ [])) (39 ∷ (v ++ 39 ∷ [])) ++ x) ≡ record { kind = kind.Quoted; here = h; text = v; rest = x })) [
-      | true ↦ λ e. (34 ∷ (v ++ 34 ∷ x), ap (λ b. lexeme (34 ∷ b)) (append_assoc v (34 ∷ []) x) ∙ first_token 34 (v ++ 34 ∷ x) refl ∙ quoted_front 34 v x refl (other e h.1) h.0)
-      | false ↦ λ e. (39 ∷ (v ++ 39 ∷ x), ap (λ b. lexeme (39 ∷ b)) (append_assoc v (39 ∷ []) x) ∙ first_token 39 (v ++ 39 ∷ x) refl ∙ quoted_front 39 v x refl e h.0)
-    ]) refl
-  where
-    other : list_any (λ b. b == 39) v ≡ true → ((list_any (λ b. b == 39) v ≡ false) ⊎ (list_any (λ b. b == 34) v ≡ false)) → list_any (λ b. b == 34) v ≡ false
-    other e (inl f) = absurd (cc)
-    other e (inr f) = f
-
-text_word : (w : Wanted) (b h l r : List ℕ) → lexeme b ≡ record { kind = kind.Word; here = h; text = l; rest = r } → text kind.Word w b ≡ Ok (l, r)
-unfolding text
-text_word w b h l r e = ap (λ (t : Lexeme). cond (same_kind t.kind kind.Word) (Ok (t.text, t.rest)) (Err (Bad (length t.here) w))) e
-
-text_quoted : (w : Wanted) (b h l r : List ℕ) → lexeme b ≡ record { kind = kind.Quoted; here = h; text = l; rest = r } → text kind.Quoted w b ≡ Ok (l, r)
-unfolding text
-text_quoted w b h l r e = ap (λ (t : Lexeme). cond (same_kind t.kind kind.Quoted) (Ok (t.text, t.rest)) (Err (Bad (length t.here) w))) e
-
-pub quoted_back : (v x : List ℕ) → IsQuotable v → quoted (32 ∷ (quoted_text v ++ x)) ≡ Ok (v, x)
-quoted_back v x h =
-    let t = quoted_token v x h in
-    text_quoted wanted.Quoted (32 ∷ (quoted_text v ++ x)) t.0 v x (behind_blank (quoted_text v ++ x) ∙ t.1)
-
-starts_with_word : (inner : Option (List ℕ → Read Form)) (b h l r : List ℕ) → lexeme b ≡ record { kind = kind.Word; here = h; text = l; rest = r } → unary_by inner b ≡ primary l r
-unfolding unary_by
-starts_with_word inner b h l r e =
-    ap (λ (t : Lexeme). cond (same_kind t.kind kind.Word) (primary t.text t.rest) (cond (same_kind t.kind kind.Bang) (within inner negation t.here t.rest) (cond (same_kind t.kind kind.Open) (within inner grouped t.here t.rest) (Err (Bad (length t.here) wanted.Term))))) e
-
-is_tested : (l r : List ℕ) → same_kind (lexeme r).kind kind.Open ≡ false → primary l r ≡ test l r
-unfolding primary
-is_tested l r h =
-    ap (λ c. cond (c && bytes_eq l (codes "all")) (constant all (lexeme r).rest) (cond (c && bytes_eq l (codes "global")) (constant global (lexeme r).rest) (cond (c && bytes_eq l (codes "has")) (membership (lexeme r).rest) (test l r)))) h
-
-leaf : (inner : Option (List ℕ → Read Form)) (l r x : List ℕ) (f : Form) → IsLabel l → same_kind (lexeme (32 ∷ r)).kind kind.Open ≡ false → test l (32 ∷ r) ≡ Ok (f, x) → unary_by inner (l ++ 32 ∷ r) ≡ Ok (f, x)
-leaf inner l r x f h k t = starts_with_word inner (l ++ 32 ∷ r) (l ++ 32 ∷ r) l (32 ∷ r) (word_front l r 32 h refl) ∙ is_tested l (32 ∷ r) k ∙ t
-
--- one operator's token, behind a blank
-equals_token : (y : List ℕ) → lexeme (32 ∷ 61 ∷ 61 ∷ y) ≡ record { kind = kind.EqualEqual; here = 61 ∷ 61 ∷ y; text = []; rest = y }
-equals_token y = behind_blank (61 ∷ 61 ∷ y) ∙ first_token 61 (61 ∷ y) refl
-
-pub equal_back : (inner : Option (List ℕ → Read Form)) (l v x : List ℕ) → IsLabel l → IsQuotable v → unary_by inner (printed (equal l v) ++ x) ≡ Ok (equal l v, x)
-unfolding test
-equal_back inner l v x hl hv =
-    let r = 61 ∷ 61 ∷ 32 ∷ (quoted_text v ++ x) in
-    let e = equals_token (32 ∷ (quoted_text v ++ x)) in
-    ap (unary_by inner) (append_assoc l (codes " == " ++ quoted_text v) x)
-    ∙ leaf inner l r x (equal l v) hl (ap (λ (t : Lexeme). same_kind t.kind kind.Open) e)
-    (ap (λ (t : Lexeme). tested l (operator_of t.kind t.text) t.here t.rest) e ∙ ap (λ q. q >>= λ (y : List ℕ × List ℕ). Ok (equal l y.0, y.1)) (quoted_back v x hv))
-
-name_front : (w y : List ℕ) → IsLabel w → lexeme (32 ∷ (w ++ 32 ∷ y)) ≡ record { kind = kind.Word; here = w ++ 32 ∷ y; text = w; rest = 32 ∷ y }
-name_front w y h = behind_blank (w ++ 32 ∷ y) ∙ word_front w y 32 h refl
-
-in_label : IsLabel (codes "in")
-in_label = ((refl, (refl, tt)), omega arith)
-
-not_label : IsLabel (codes "not")
-not_label = ((refl, (refl, (refl, tt))), omega arith)
-
-with_label : IsLabel (codes "with")
-with_label = ((refl, (refl, (refl, (refl, tt)))), omega arith)
-
-ends_label : IsLabel (codes "ends")
-ends_label = ((refl, (refl, (refl, (refl, tt)))), omega arith)
-
-starts_label : IsLabel (codes "starts")
-starts_label = ((refl, (refl, (refl, (refl, (refl, (refl, tt)))))), omega arith)
-
-contains_label : IsLabel (codes "contains")
-contains_label = ((refl, (refl, (refl, (refl, (refl, (refl, (refl, (refl, tt)))))))), omega arith)
-
-all_label : IsLabel (codes "all")
-all_label = ((refl, (refl, (refl, tt))), omega arith)
-
-has_label : IsLabel (codes "has")
-has_label = ((refl, (refl, (refl, tt))), omega arith)
-
-global_label : IsLabel (codes "global")
-global_label = ((refl, (refl, (refl, (refl, (refl, (refl, tt)))))), omega arith)
-
-word_back : (name : List ℕ) (w : Wanted) (y : List ℕ) → IsLabel name → bytes_eq name name ≡ true → word name w (32 ∷ (name ++ 32 ∷ y)) ≡ Ok (32 ∷ y)
-unfolding word
-word_back name w y h same =
-    ap (λ (t : Lexeme). cond (same_kind t.kind kind.Word && bytes_eq t.text name) (Ok t.rest) (Err (Bad (length t.here) w))) (name_front name y h)
-    ∙ ap (λ b. cond b (Ok (32 ∷ y)) (Err (Bad (length (name ++ 32 ∷ y)) w))) same
-
-mark_back : (k : Kind) (w : Wanted) (b h y : List ℕ) → lexeme b ≡ record { kind = k; here = h; text = []; rest = y } → same_kind k k ≡ true → mark k w b ≡ Ok y
-unfolding mark
-mark_back k w b h y e same =
-    ap (λ (t : Lexeme). cond (same_kind t.kind k) (Ok t.rest) (Err (Bad (length t.here) w))) e
-    ∙ ap (λ c. cond c (Ok y) (Err (Bad (length h) w))) same
-
-brace_token : (x : List ℕ) → lexeme (125 ∷ x) ≡ record { kind = kind.RightBrace; here = 125 ∷ x; text = []; rest = x }
-brace_token x = first_token 125 x refl
-
-close_token : (x : List ℕ) → lexeme (41 ∷ x) ≡ record { kind = kind.Close; here = 41 ∷ x; text = []; rest = x }
-close_token x = first_token 41 x refl
-
-open_token : (x : List ℕ) → lexeme (40 ∷ x) ≡ record { kind = kind.Open; here = 40 ∷ x; text = []; rest = x }
-open_token x = first_token 40 x refl
+use Rattle.ty_select.proofs.PrintedTokens.{first_token, behind_blank, word_front, quoted_token, text_word, text_quoted, quoted_back, starts_with_word, leaf, equal_back, name_front, in_label, not_label, with_label, ends_label, starts_label, contains_label, all_label, has_label, global_label, word_back, mark_back, brace_token, close_token, open_token}
 
 regroup : (a b c x : List ℕ) → ((a ++ b) ++ c) ++ x ≡ a ++ ((b ++ c) ++ x)
 regroup a b c x = simp append_assoc
@@ -190,14 +31,14 @@ texts_unfold : (k : ℕ) (b : List ℕ) → more_texts (suc k) b ≡ texts_step 
 unfolding more_texts
 texts_unfold k b = refl
 
-more_back : (k : ℕ) (ws x : List (List ℕ)) (y : List ℕ) → AllByRecursion IsQuotable ws → length ((listed (codes ", ") ws ++ 125 ∷ []) ++ y) ≤ k
-    → more_texts k ((listed (codes ", ") ws ++ 125 ∷ []) ++ y) ≡ Ok (ws, y)
+more_back : (k : ℕ) (ws x : List (List ℕ)) (y : List ℕ) → AllByRecursion IsQuotable ws → length ((quoted_texts (codes ", ") ws ++ 125 ∷ []) ++ y) ≤ k
+    → more_texts k ((quoted_texts (codes ", ") ws ++ 125 ∷ []) ++ y) ≡ Ok (ws, y)
 more_back zero [] x y a le = absurd (omega arith)
 more_back zero (w ∷ us) x y a le = absurd (omega arith)
 more_back (suc k) [] x y a le = texts_unfold k (125 ∷ y) ∙ ap (texts_step k) (brace_token y)
 more_back (suc k) (w ∷ us) x y a le =
-    let z = (listed (codes ", ") us ++ 125 ∷ []) ++ y in
-    let g = regroup (quoted_text w) (listed (codes ", ") us) (125 ∷ []) y in
+    let z = (quoted_texts (codes ", ") us ++ 125 ∷ []) ++ y in
+    let g = regroup (quoted_text w) (quoted_texts (codes ", ") us) (125 ∷ []) y in
     let short : length z ≤ k = omega (arith, ap length g, length-append (quoted_text w) z) in
     ap (λ b. more_texts (suc k) (44 ∷ 32 ∷ b)) g
     ∙ texts_unfold k (44 ∷ 32 ∷ (quoted_text w ++ z))
@@ -205,10 +46,10 @@ more_back (suc k) (w ∷ us) x y a le =
     ∙ ap (λ r. r >>= λ (y : List ℕ × List ℕ). more_texts k y.1 >>= λ ys. Ok (y.0 ∷ ys.0, ys.1)) (quoted_back w z a.0)
     ∙ ap (λ r. r >>= λ (ys : List (List ℕ) × List ℕ). Ok (w ∷ ys.0, ys.1)) (more_back k us x y a.1 short)
 
-texts_back : (v : List ℕ) (vs : List (List ℕ)) (x : List ℕ) → AllByRecursion IsQuotable (v ∷ vs) → texts (quoted_text v ++ ((listed (codes ", ") vs ++ 125 ∷ []) ++ x)) ≡ Ok (v ∷ vs, x)
+texts_back : (v : List ℕ) (vs : List (List ℕ)) (x : List ℕ) → AllByRecursion IsQuotable (v ∷ vs) → texts (quoted_text v ++ ((quoted_texts (codes ", ") vs ++ 125 ∷ []) ++ x)) ≡ Ok (v ∷ vs, x)
 unfolding texts
 texts_back v vs x a =
-    let z = (listed (codes ", ") vs ++ 125 ∷ []) ++ x in
+    let z = (quoted_texts (codes ", ") vs ++ 125 ∷ []) ++ x in
     let t = quoted_token v z a.0 in
     let le : length z ≤ length z = omega arith in
     ap (λ r. r >>= λ (t : List ℕ × List ℕ). more_texts (length t.1) t.1 >>= λ ts. Ok (t.0 ∷ ts.0, ts.1)) (text_quoted wanted.QuotedOrBrace (quoted_text v ++ z) t.0 v z t.1)
@@ -224,9 +65,9 @@ pub set_back : (vs : List (List ℕ)) (x : List ℕ) → AllByRecursion IsQuotab
 unfolding set_text
 set_back [] x a = set_opened (125 ∷ x) ∙ ap (λ (t : Lexeme). cond (same_kind t.kind kind.RightBrace) (Ok ([], t.rest)) (texts (125 ∷ x))) (brace_token x)
 set_back (v ∷ vs) x a =
-    let z = (listed (codes ", ") vs ++ 125 ∷ []) ++ x in
+    let z = (quoted_texts (codes ", ") vs ++ 125 ∷ []) ++ x in
     let t = quoted_token v z a.0 in
-    ap (λ b. set (32 ∷ 123 ∷ b)) (regroup (quoted_text v) (listed (codes ", ") vs) (125 ∷ []) x)
+    ap (λ b. set (32 ∷ 123 ∷ b)) (regroup (quoted_text v) (quoted_texts (codes ", ") vs) (125 ∷ []) x)
     ∙ set_opened (quoted_text v ++ z)
     ∙ ap (λ (t : Lexeme). cond (same_kind t.kind kind.RightBrace) (Ok ([], t.rest)) (texts (quoted_text v ++ z))) t.1
     ∙ texts_back v vs x a
@@ -319,7 +160,7 @@ has_back inner l x h =
 -- Nested selectors.
 abbrev unary_step : Option (List ℕ → Read Form) → Lexeme → Read Form
 unary_step inner t =
-    cond (same_kind t.kind kind.Word) (primary t.text t.rest) (cond (same_kind t.kind kind.Bang) (within inner negation t.here t.rest) (cond (same_kind t.kind kind.Open) (within inner grouped t.here t.rest) (Err (Bad (length t.here) wanted.Term))))
+    cond (same_kind t.kind kind.Word) (primary t.text t.rest) (cond (same_kind t.kind kind.Bang) (one_deeper inner negation t.here t.rest) (cond (same_kind t.kind kind.Open) (one_deeper inner grouped t.here t.rest) (Err (Bad (length t.here) wanted.Term))))
 
 unary_unfold : (inner : Option (List ℕ → Read Form)) (b : List ℕ) → unary_by inner b ≡ unary_step inner (lexeme b)
 unfolding unary_by
@@ -338,8 +179,8 @@ word_byte_no_equals : (b : ℕ) → is_word_byte b ≡ true → (b == 61) ≡ fa
 word_byte_no_equals b h = grind (arith, nat_tests)
 
 label_start : (l y x : List ℕ) → IsLabel l → (slice_index ((l ++ y) ++ x) 0 == 61) ≡ false
-label_start [] y x h = absurd h
-label_start (b ∷ bs) y x h = word_byte_no_equals b h.0.0
+label_start [] y x h = absurd (true≢false (sym h))
+label_start (b ∷ bs) y x h = word_byte_no_equals b (and_parts _ _ (and_parts _ _ h).1).0
 
 no_equals_first : (f : Form) (x : List ℕ) → IsPrintable f → (slice_index (printed f ++ x) 0 == 61) ≡ false
 no_equals_first all x p = refl
@@ -366,8 +207,8 @@ none_more k one (suc m) b h =
 alone : (k : Kind) (make : List Form → Form) (one : List ℕ → Read Form) (b r : List ℕ) (f : Form) → one b ≡ Ok (f, r) → same_kind (lexeme r).kind k ≡ false → operands k make one b ≡ Ok (f, r)
 unfolding operands
 alone k make one b r f h stop =
-    ap (λ q. q >>= λ (x : Form × List ℕ). others_from k one x.0 x.1 >>= λ xs. Ok (joined make xs.0, xs.1)) h
-    ∙ ap (λ q. q >>= (λ (xs : List Form × List ℕ). Ok (f ∷ xs.0, xs.1)) >>= λ (xs : List Form × List ℕ). Ok (joined make xs.0, xs.1)) (none_more k one (length r) r stop)
+    ap (λ q. q >>= λ (x : Form × List ℕ). others_from k one x.0 x.1 >>= λ xs. Ok (alone_or make xs.0, xs.1)) h
+    ∙ ap (λ q. q >>= (λ (xs : List Form × List ℕ). Ok (f ∷ xs.0, xs.1)) >>= λ (xs : List Form × List ℕ). Ok (alone_or make xs.0, xs.1)) (none_more k one (length r) r stop)
 
 -- one operand more
 one_more : (k : Kind) (one : List ℕ → Read Form) (m : ℕ) (b h c r s : List ℕ) (f : Form) (fs : List Form) → lexeme b ≡ record { kind = k; here = h; text = []; rest = c } → same_kind k k ≡ true
@@ -383,8 +224,8 @@ one_more k one m b h c r s f fs e same first rest =
 several : (k : Kind) (make : List Form → Form) (one : List ℕ → Read Form) (b r s : List ℕ) (f g : Form) (gs : List Form) → one b ≡ Ok (f, r) → others k one (length r) r ≡ Ok (g ∷ gs, s) → operands k make one b ≡ Ok (make (f ∷ g ∷ gs), s)
 unfolding operands
 several k make one b r s f g gs first rest =
-    ap (λ q. q >>= λ (x : Form × List ℕ). others_from k one x.0 x.1 >>= λ xs. Ok (joined make xs.0, xs.1)) first
-    ∙ ap (λ q. q >>= (λ (xs : List Form × List ℕ). Ok (f ∷ xs.0, xs.1)) >>= λ (xs : List Form × List ℕ). Ok (joined make xs.0, xs.1)) rest
+    ap (λ q. q >>= λ (x : Form × List ℕ). others_from k one x.0 x.1 >>= λ xs. Ok (alone_or make xs.0, xs.1)) first
+    ∙ ap (λ q. q >>= (λ (xs : List Form × List ℕ). Ok (f ∷ xs.0, xs.1)) >>= λ (xs : List Form × List ℕ). Ok (alone_or make xs.0, xs.1)) rest
 
 abbrev listing : Forms → List Form
 listing none = []
@@ -428,13 +269,13 @@ mutual
       let z = (parted sep sep (more g gs) ++ 41 ∷ []) ++ x in
       let y = printed f ++ z in
       let u = unary (n - 1) in
-      let whole : List Form = listing (more f (more g gs)) in
+      let every : List Form = listing (more f (more g gs)) in
       let le : length z ≤ length z = omega arith in
       let conj : conjunction u y ≡ Ok (both (more f (more g gs)), 41 ∷ x) =
-      several kind.AndAnd all_of u y z (41 ∷ x) f g (listing gs) (back (n - 1) f z p.1.0 (omega arith)) (conditions_back (n - 1) (length z) (more g gs) x p.1.1 (omega arith) le)
+      several kind.AndAnd both_of u y z (41 ∷ x) f g (listing gs) (back (n - 1) f z p.1.0 (omega arith)) (conditions_back (n - 1) (length z) (more g gs) x p.1.1 (omega arith) le)
       ∙ ap (λ fs. Ok (both fs, 41 ∷ x)) (listing_back (more f (more g gs))) in
       let disj : disjunction u y ≡ Ok (both (more f (more g gs)), 41 ∷ x) =
-      alone kind.OrOr any_of (conjunction u) y (41 ∷ x) (both (more f (more g gs))) conj (ap (λ (t : Lexeme). same_kind t.kind kind.OrOr) (close_token x)) in
+      alone kind.OrOr either_of (conjunction u) y (41 ∷ x) (both (more f (more g gs))) conj (ap (λ (t : Lexeme). same_kind t.kind kind.OrOr) (close_token x)) in
       ap (λ b. unary n (40 ∷ b)) (regroup (printed f) (parted sep sep (more g gs)) (41 ∷ []) x)
       ∙ unary_unfold (inside n) (40 ∷ y) ∙ ap (unary_step (inside n)) (open_token y)
       ∙ group_read n (40 ∷ y) y (omega arith) (both (more f (more g gs))) (41 ∷ x) x disj (mark_back kind.Close wanted.Close (41 ∷ x) (41 ∷ x) x (close_token x) refl)
@@ -446,9 +287,9 @@ mutual
       let y = printed f ++ z in
       let u = unary (n - 1) in
       let le : length z ≤ length z = omega arith in
-      let first : conjunction u y ≡ Ok (f, z) = alone kind.AndAnd all_of u y z f (back (n - 1) f z p.1.0 (omega arith)) (after_or (more g gs) x) in
+      let first : conjunction u y ≡ Ok (f, z) = alone kind.AndAnd both_of u y z f (back (n - 1) f z p.1.0 (omega arith)) (after_or (more g gs) x) in
       let disj : disjunction u y ≡ Ok (either (more f (more g gs)), 41 ∷ x) =
-      several kind.OrOr any_of (conjunction u) y z (41 ∷ x) f g (listing gs) first (alternatives_back (n - 1) (length z) (more g gs) x p.1.1 (omega arith) le)
+      several kind.OrOr either_of (conjunction u) y z (41 ∷ x) f g (listing gs) first (alternatives_back (n - 1) (length z) (more g gs) x p.1.1 (omega arith) le)
       ∙ ap (λ fs. Ok (either fs, 41 ∷ x)) (listing_back (more f (more g gs))) in
       ap (λ b. unary n (40 ∷ b)) (regroup (printed f) (parted sep sep (more g gs)) (41 ∷ []) x)
       ∙ unary_unfold (inside n) (40 ∷ y) ∙ ap (unary_step (inside n)) (open_token y)
@@ -478,7 +319,7 @@ mutual
       let short : length z ≤ k = omega (arith, ap length g, length-append (printed f) z) in
       ap (λ b. others kind.OrOr (conjunction (unary n)) (suc k) (32 ∷ 124 ∷ 124 ∷ 32 ∷ b)) g
       ∙ one_more kind.OrOr (conjunction (unary n)) k (32 ∷ 124 ∷ 124 ∷ 32 ∷ (printed f ++ z)) (124 ∷ 124 ∷ 32 ∷ (printed f ++ z)) (32 ∷ (printed f ++ z)) z (41 ∷ x) f (listing fs) (or_token (32 ∷ (printed f ++ z))) refl
-      (alone kind.AndAnd all_of (unary n) (32 ∷ (printed f ++ z)) z f (unary_blank (inside n) (printed f ++ z) ∙ back n f z p.0 (omega arith)) (after_or fs x))
+      (alone kind.AndAnd both_of (unary n) (32 ∷ (printed f ++ z)) z f (unary_blank (inside n) (printed f ++ z) ∙ back n f z p.0 (omega arith)) (after_or fs x))
       (alternatives_back n k fs x p.1 (omega arith) short)
 
 -- a unary doesn't begin with the text's end
@@ -499,15 +340,15 @@ not_ended inner kind.End h l c f r e = absurd (cc)
 not_ended inner kind.Junk h l c f r e = refl
 
 -- what is printed is read again
-pub read_back : (f : Form) → IsPrintable f → depth f ≤ 64 → selector_of (printed f) ≡ Ok f
-unfolding selector_of whole lexeme
+pub read_back : (f : Form) → IsPrintable f → depth f ≤ MOST_OPEN → selector_of (printed f) ≡ Ok f
+unfolding selector_of whole_text lexeme
 read_back f p d =
     let b = printed f in
-    let u = unary 64 in
-    let h : u b ≡ Ok (f, []) = ap u (sym (append-nil b)) ∙ back 64 f [] p d in
-    let conj : conjunction u b ≡ Ok (f, []) = alone kind.AndAnd all_of u b [] f h refl in
-    let disj : disjunction u b ≡ Ok (f, []) = alone kind.OrOr any_of (conjunction u) b [] f conj refl in
-    let begun : same_kind (lexeme b).kind kind.End ≡ false = not_ended (inside 64) (lexeme b).kind (lexeme b).here (lexeme b).text (lexeme b).rest f [] (sym (unary_unfold (inside 64) b) ∙ h) in
+    let u = unary MOST_OPEN in
+    let h : u b ≡ Ok (f, []) = ap u (sym (append-nil b)) ∙ back MOST_OPEN f [] p d in
+    let conj : conjunction u b ≡ Ok (f, []) = alone kind.AndAnd both_of u b [] f h refl in
+    let disj : disjunction u b ≡ Ok (f, []) = alone kind.OrOr either_of (conjunction u) b [] f conj refl in
+    let begun : same_kind (lexeme b).kind kind.End ≡ false = not_ended (inside MOST_OPEN) (lexeme b).kind (lexeme b).here (lexeme b).text (lexeme b).rest f [] (sym (unary_unfold (inside MOST_OPEN) b) ∙ h) in
     ap (from_the_front (length b))
     (ap (λ c. cond c (Ok all) (disjunction u b >>= λ x. cond (same_kind (lexeme x.1).kind kind.End) (Ok x.0) (Err (Bad (length (lexeme x.1).here) wanted.Joint)))) begun
     ∙ ap (λ r. r >>= λ (x : Form × List ℕ). cond (same_kind (lexeme x.1).kind kind.End) (Ok x.0) (Err (Bad (length (lexeme x.1).here) wanted.Joint))) disj)

@@ -1,5 +1,7 @@
 pub mod Back
-pub mod Lexing
 pub mod Loops
+pub mod Printable
 pub mod Printed
+pub mod PrintedTokens
 pub mod Shapes
+pub mod Tokens

@@ -11,7 +11,8 @@ use Rattle.ty_select.specs.declared.token.Kind.{Kind}
 use Rattle.ty_select.specs.declared.token.Kind.TheVariants as kind
 use Rattle.ty_select.specs.Forms.{Form, negated}
 use Rattle.ty_select.specs.Tokens.{Lexeme, lexeme, same_kind}
-use Rattle.ty_select.specs.Reading.{◌>>=◌, Stops, Read, mark, quoted, more_texts, texts_from, others, others_from, joined, disjunction, negation, grouped, within, inside, unary, placed, from_the_front}
+use Rattle.ty_select.specs.Expressions.{◌>>=◌, Read, mark, quoted, more_texts, texts_from, others, others_from, alone_or, disjunction, negation, grouped, one_deeper, inside, unary, stop_fault, from_the_front}
+use Rattle.ty_select.specs.steps.Returns.{Stops}
 
 -- what was read before, and what is still read
 abbrev pub with_front : {A : Type 0} → List A → Read (List A) → Read (List A)
@@ -156,7 +157,7 @@ texts_begin first count bytes e =
     ap (λ m. with_front (first ∷ []) (more_texts m bytes)) n
 
 -- several operands, or none, make a node
-pub several : (make : List Form → Form) (fs : List Form) → ¬ (length fs ≡ 1) → make fs ≡ joined make fs
+pub several : (make : List Form → Form) (fs : List Form) → ¬ (length fs ≡ 1) → make fs ≡ alone_or make fs
 several make [] h = refl
 several make (f ∷ []) h = absurd (h refl)
 several make (f ∷ g ∷ gs) h = refl
@@ -178,42 +179,42 @@ stops_along {A} e r s is h =
     subst P (sym is) h
 
 -- a `!` or a `(` where none may be open any more, and where one may
-pub too_deep : (held : (List ℕ → Read Form) → List ℕ → Read Form) (levels : ℕ) (here bytes : List ℕ) → levels ≡ 0 → within (inside levels) held here bytes ≡ Err (TooDeep (length here))
+pub too_deep : (held : (List ℕ → Read Form) → List ℕ → Read Form) (levels : ℕ) (here bytes : List ℕ) → levels ≡ 0 → one_deeper (inside levels) held here bytes ≡ Err (TooDeep (length here))
 unfolding inside
-too_deep held levels here bytes e = ap (λ n. within (inside n) held here bytes) e
+too_deep held levels here bytes e = ap (λ n. one_deeper (inside n) held here bytes) e
 
-one_more : (held : (List ℕ → Read Form) → List ℕ → Read Form) (levels : ℕ) (here bytes : List ℕ) → 0 < levels → within (inside levels) held here bytes ≡ held (unary (levels - 1)) bytes
+one_more : (held : (List ℕ → Read Form) → List ℕ → Read Form) (levels : ℕ) (here bytes : List ℕ) → 0 < levels → one_deeper (inside levels) held here bytes ≡ held (unary (levels - 1)) bytes
 unfolding inside
 one_more held levels here bytes lt =
     let n : levels ≡ suc (levels - 1) = omega arith in
-    ap (λ m. within (inside m) held here bytes) n
+    ap (λ m. one_deeper (inside m) held here bytes) n
 
 module _ (levels : ℕ) (here bytes : List ℕ) (lt : 0 < levels) where
-  pub negation_read : (x : Form) (rest : List ℕ) → unary (levels - 1) bytes ≡ Ok (x, rest) → within (inside levels) negation here bytes ≡ Ok (negated x, rest)
+  pub negation_read : (x : Form) (rest : List ℕ) → unary (levels - 1) bytes ≡ Ok (x, rest) → one_deeper (inside levels) negation here bytes ≡ Ok (negated x, rest)
   negation_read x rest h = one_more negation levels here bytes lt ∙ ap (λ r. r >>= λ (y : Form × List ℕ). Ok (negated y.0, y.1)) h
 
-  pub negation_stops : (e : Stop) → Stops e (unary (levels - 1) bytes) → Stops e (within (inside levels) negation here bytes)
+  pub negation_stops : (e : Stop) → Stops e (unary (levels - 1) bytes) → Stops e (one_deeper (inside levels) negation here bytes)
   negation_stops e h = stops_along e _ _ (one_more negation levels here bytes lt) (stops_through e (unary (levels - 1) bytes) (λ y. Ok (negated y.0, y.1)) h)
 
-  pub group_read : (x : Form) (held rest : List ℕ) → disjunction (unary (levels - 1)) bytes ≡ Ok (x, held) → mark kind.Close wanted.Close held ≡ Ok rest → within (inside levels) grouped here bytes ≡ Ok (x, rest)
+  pub group_read : (x : Form) (held rest : List ℕ) → disjunction (unary (levels - 1)) bytes ≡ Ok (x, held) → mark kind.Close wanted.Close held ≡ Ok rest → one_deeper (inside levels) grouped here bytes ≡ Ok (x, rest)
   group_read x held rest h closed =
       one_more grouped levels here bytes lt
       ∙ ap (λ r. r >>= λ (y : Form × List ℕ). mark kind.Close wanted.Close y.1 >>= λ s. Ok (y.0, s)) h
       ∙ ap (λ r. r >>= λ s. Ok (x, s)) closed
 
-  pub group_stops : (e : Stop) → Stops e (disjunction (unary (levels - 1)) bytes) → Stops e (within (inside levels) grouped here bytes)
+  pub group_stops : (e : Stop) → Stops e (disjunction (unary (levels - 1)) bytes) → Stops e (one_deeper (inside levels) grouped here bytes)
   group_stops e h =
       stops_along e _ _ (one_more grouped levels here bytes lt)
       (stops_through e (disjunction (unary (levels - 1)) bytes) (λ y. mark kind.Close wanted.Close y.1 >>= λ s. Ok (y.0, s)) h)
 
-  pub group_unclosed : (e : Stop) (x : Form) (held : List ℕ) → disjunction (unary (levels - 1)) bytes ≡ Ok (x, held) → Stops e (mark kind.Close wanted.Close held) → Stops e (within (inside levels) grouped here bytes)
+  pub group_unclosed : (e : Stop) (x : Form) (held : List ℕ) → disjunction (unary (levels - 1)) bytes ≡ Ok (x, held) → Stops e (mark kind.Close wanted.Close held) → Stops e (one_deeper (inside levels) grouped here bytes)
   group_unclosed e x held h s =
       stops_along e _ _
       (one_more grouped levels here bytes lt ∙ ap (λ r. r >>= λ (y : Form × List ℕ). mark kind.Close wanted.Close y.1 >>= λ s. Ok (y.0, s)) h)
       (stops_through e (mark kind.Close wanted.Close held) (λ s. Ok (x, s)) s)
 
 -- a fault, told from the front
-pub fault_placed : (n : ℕ) (stop : Stop) (read : Result Form Stop) (e : SelectFault) → e ≡ placed n stop → Stops stop read → e ≢ faults.NoMemory → from_the_front n read ≡ Err e
+pub fault_placed : (n : ℕ) (stop : Stop) (read : Result Form Stop) (e : SelectFault) → e ≡ stop_fault n stop → Stops stop read → e ≢ faults.NoMemory → from_the_front n read ≡ Err e
 fault_placed n Spent read e is h ne = absurd (ne is)
 fault_placed n (Bad left w) read e is h ne = ap (from_the_front n) h ∙ ap Err (sym is)
 fault_placed n (TooDeep left) read e is h ne = ap (from_the_front n) h ∙ ap Err (sym is)

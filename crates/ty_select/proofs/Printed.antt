@@ -2,8 +2,9 @@
 use Rattle.std.proofs.Common.{◌≡◌, ℕ, ◌+◌, ◌<◌, ◌≤◌, min, max, List, [], ◌∷◌, ◌++◌, length, get_or, drop, codes, sym, ap, ◌∙◌, append_assoc, arith}
 use Rattle.std.proofs.lemmas.List.{at_drop_more, at_drop_all, append-nil}
 use Rattle.ty_select.specs.declared.selector.Selector.{Selector}
-use Rattle.ty_select.specs.Forms.{form, forms, forms_of}
-use Rattle.ty_select.specs.Printing.{quoted_text, listed, printed, parted, deepest, depth}
+use Rattle.ty_select.specs.Forms.{form, forms_of}
+use Rattle.ty_select.specs.steps.Forms.{forms}
+use Rattle.ty_select.specs.Text.{quoted_text, quoted_texts, printed, parted, deepest, depth}
 
 here_next : {X : Type 0} (xs : List X) (i : ℕ) (v : X) → i < length xs → v ≡ get_or xs i v → drop i xs ≡ v ∷ drop (i + 1) xs
 here_next {X} xs i v lt is = at_drop_more (λ (l : List X). l) xs i v lt ∙ ap (λ x. x ∷ drop (i + 1) xs) (sym is)
@@ -15,12 +16,12 @@ regroup : (out before item rest : List ℕ) → ((out ++ before) ++ item) ++ res
 regroup out before item rest = simp append_assoc
 
 module _ (vs : List (List ℕ)) (i : ℕ) (out before total : List ℕ) where
-  pub listed_on : (v : List ℕ) → i < length vs → v ≡ get_or vs i v → out ++ listed before (drop i vs) ≡ total → ((out ++ before) ++ quoted_text v) ++ listed (codes ", ") (drop (i + 1) vs) ≡ total
+  pub listed_on : (v : List ℕ) → i < length vs → v ≡ get_or vs i v → out ++ quoted_texts before (drop i vs) ≡ total → ((out ++ before) ++ quoted_text v) ++ quoted_texts (codes ", ") (drop (i + 1) vs) ≡ total
   listed_on v lt is so_far =
-      regroup out before (quoted_text v) (listed (codes ", ") (drop (i + 1) vs)) ∙ sym (ap (λ l. out ++ listed before l) (here_next vs i v lt is)) ∙ so_far
+      regroup out before (quoted_text v) (quoted_texts (codes ", ") (drop (i + 1) vs)) ∙ sym (ap (λ l. out ++ quoted_texts before l) (here_next vs i v lt is)) ∙ so_far
 
-  pub listed_all : length vs ≤ i → out ++ listed before (drop i vs) ≡ total → out ≡ total
-  listed_all le so_far = sym (append-nil out) ∙ sym (ap (λ l. out ++ listed before l) (nothing_left vs i le)) ∙ so_far
+  pub listed_all : length vs ≤ i → out ++ quoted_texts before (drop i vs) ≡ total → out ≡ total
+  listed_all le so_far = sym (append-nil out) ∙ sym (ap (λ l. out ++ quoted_texts before l) (nothing_left vs i le)) ∙ so_far
 
 module _ (ss : List Selector) (i : ℕ) (out before mark total : List ℕ) where
   pub parted_on : (s : Selector) → i < length ss → s ≡ get_or ss i s → out ++ parted before mark (forms_of (forms (drop i ss))) ≡ total

@@ -5,7 +5,8 @@ use Rattle.ty_select.specs.declared.selector.Selector.TheFolds.{fold-roll-Select
 use Rattle.ty_select.specs.declared.selector.Selector.TheOpen.{Selector-F}
 use Rattle.ty_select.specs.declared.selector.Selector.TheVariants.{rolls-Not, rolls-And, rolls-Or}
 use Rattle.ty_select.specs.declared.selector.Selector.TheViews as views
-use Rattle.ty_select.specs.Forms.{Form, form, forms, forms_of, form_step, negated, both, either}
+use Rattle.ty_select.specs.Forms.{Form, form, forms_of, form_step, negated, both, either}
+use Rattle.ty_select.specs.steps.Forms.{forms}
 
 pub form-Not : (b : Box Selector Global) → form (views.Not b) ≡ negated (form b.value)
 form-Not b = ap form (sym (rolls-Not b)) ∙ fold-roll-Selector Form (List Form) form_step (λ ss. ss.list.items) (Selector-F.Not b)

@@ -1,5 +1,5 @@
 -- What a selector says, without where it lies in memory.
-use Rattle.std.specs.Prelude.{ℕ, List, [], ◌∷◌, map}
+use Rattle.std.specs.Prelude.{ℕ, List, [], ◌∷◌}
 use Rattle.ty_select.specs.declared.selector.Selector.{Selector}
 use Rattle.ty_select.specs.declared.selector.Selector.TheOpen.{Selector-F}
 use Rattle.ty_select.specs.declared.selector.Selector.TheFolds.{fold-Selector}
@@ -47,6 +47,3 @@ form_step (Selector-F.Or ss) = either (forms_of ss)
 -- what a selector says
 abbrev pub form : Selector → Form
 form = fold-Selector Form (List Form) form_step (λ ss. ss.list.items)
-
-abbrev pub forms : List Selector → List Form
-forms ss = map form ss

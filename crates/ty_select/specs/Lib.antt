@@ -1,5 +1,7 @@
+pub mod Expressions
 pub mod Forms
 pub mod Printable
-pub mod Printing
-pub mod Reading
+pub mod Text
 pub mod Tokens
+pub mod Words
+pub mod steps

@@ -1,14 +1,12 @@
 -- The selectors whose printed text is one: what every selector is that was read.
-use Rattle.std.specs.Prelude.{◌≡◌, ℕ, ◌≤◌, true, false, List, [], ◌∷◌, length, ◌==◌, ◌⊎◌}
+use Rattle.std.specs.Prelude.{◌≡◌, ℕ, true, false, List, ◌==◌, ◌⊎◌}
 use Rattle.std.specs.List.{list_any, AllByRecursion}
 use Rattle.std.specs.Str.{is_utf8}
 use Rattle.ty_select.specs.Forms.{Form, all, global, has, equal, unequal, among, not_among, contains, starts, ends, negated, both, either, Forms, none, more}
-use Rattle.ty_select.specs.Tokens.{is_word_byte}
+use Rattle.ty_select.specs.Words.{is_word}
 
--- a word: 1 to 512 bytes
 abbrev pub IsLabel : List ℕ → Type 0
-IsLabel [] = ⊥
-IsLabel (b ∷ bs) = AllByRecursion (λ c. is_word_byte c ≡ true) (b ∷ bs) × (length (b ∷ bs) ≤ 512)
+IsLabel l = is_word l ≡ true
 
 -- a text that holds not both quotes
 abbrev pub IsQuotable : List ℕ → Type 0

@@ -1,11 +1,10 @@
 -- The tokens of a selector's text.
-use Rattle.std.specs.Prelude.{ℕ, ◌+◌, List, [], length, take, drop, Bool, not, ◌&&◌, ◌||◌, ◌==◌, nat_lt, slice_index, if◌then◌else◌}
-use Rattle.std.specs.Char.{is_ascii_alphanumeric}
+use Rattle.std.specs.Prelude.{ℕ, ◌+◌, List, [], length, take, drop, Bool, not, ◌&&◌, ◌||◌, ◌==◌, slice_index, if◌then◌else◌}
 use Rattle.std.specs.List.{prefix_len, position_or_len}
 use Rattle.std.specs.Str.{is_utf8}
+use Rattle.ty_select.specs.Words.{is_word_byte, is_word}
 use Rattle.ty_select.specs.declared.token.Kind.{Kind}
 use Rattle.ty_select.specs.declared.token.Kind.TheVariants.{Word, Quoted, Open, Close, LeftBrace, RightBrace, Comma, Bang, NotEqual, EqualEqual, AndAnd, OrOr, End, Junk}
-use Rattle.ty_select.specs.declared.token.Token.{Token}
 
 -- a token: its kind, the text from it on, the word or what stands between its quotes, and the text after it
 pub record Lexeme : Type 0 where
@@ -14,17 +13,9 @@ pub record Lexeme : Type 0 where
   pub text : List ℕ
   pub rest : List ℕ
 
--- a token without where its texts lie
-abbrev pub seen : Token → Lexeme
-seen t = record { kind = t.kind; here = t.here.now; text = t.text.now; rest = t.rest.now }
-
 -- a space or a tab
 abbrev pub is_blank : ℕ → Bool
 is_blank b = (b == 32) || (b == 9)
-
--- A to Z, a to z, 0 to 9, _ . / -
-abbrev pub is_word_byte : ℕ → Bool
-is_word_byte b = is_ascii_alphanumeric b || (b == 95) || (b == 46) || (b == 47) || (b == 45)
 
 -- ' or "
 abbrev pub is_quote : ℕ → Bool
@@ -34,12 +25,12 @@ is_quote b = (b == 39) || (b == 34)
 abbrev pub nothing : Kind → List ℕ → Lexeme
 nothing kind here = record { kind = kind; here = here; text = []; rest = here }
 
--- the longest word at the front, which has 512 bytes at most
+-- all bytes of words at the front, where they are a word
 abbrev pub word_at : List ℕ → Lexeme
 word_at here =
     let n = prefix_len is_word_byte here in
-    if nat_lt 512 n then nothing Junk here
-    else record { kind = Word; here = here; text = take n here; rest = drop n here }
+    if is_word (take n here) then record { kind = Word; here = here; text = take n here; rest = drop n here }
+    else nothing Junk here
 
 -- the text from a quote to the next like it, which is UTF-8
 abbrev pub quoted_at : List ℕ → ℕ → Lexeme
@@ -69,16 +60,11 @@ width NotEqual = 2
 width EqualEqual = 2
 width AndAnd = 2
 width OrOr = 2
-width Open = 1
-width Close = 1
-width LeftBrace = 1
-width RightBrace = 1
-width Comma = 1
-width Bang = 1
 width Word = 0
 width Quoted = 0
 width End = 0
 width Junk = 0
+width k = 1
 
 abbrev pub mark_at : List ℕ → Lexeme
 mark_at here =

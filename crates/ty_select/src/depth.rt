@@ -1,14 +1,15 @@
 // How deep a selector nests.
-ghost use Rattle.std.specs.Prelude.{◌≡◌, ◌+◌, ◌-◌, ◌^◌, min};
-ghost use Rattle.ty_select.specs.Forms.{form, forms, forms_of};
-ghost use Rattle.ty_select.specs.Printing.{depth, deepest as depth_of_all};
+ghost use Rattle.std.specs.Prelude.{◌≡◌, ◌+◌};
+ghost use Rattle.ty_select.specs.Forms.{form, forms_of};
+ghost use Rattle.ty_select.specs.steps.Forms.{forms};
+ghost use Rattle.ty_select.specs.Text.{capped, depth, deepest};
 
 use crate::selector::Selector;
 
 impl Selector {
     /// The most `!` and `(` of grouping that are open at once in the printed text, up to `u64::MAX`.
     pub fn depth(&self) -> u64
-        ensures { result ≡ min (depth (form self.now)) (2 ^ 64 - 1) }
+        ensures { result ≡ capped (depth (form self.now)) }
     {
         depth_of(self)
     }
@@ -16,7 +17,7 @@ impl Selector {
 
 #[cycle(nesting)]
 fn depth_of(selector: &Selector) -> u64
-    ensures { result ≡ min (depth (form selector.now)) (2 ^ 64 - 1) }
+    ensures { result ≡ capped (depth (form selector.now)) }
 {
     match selector {
         Selector::Not(operand) => one_more(depth_of(operand)),
@@ -28,7 +29,7 @@ fn depth_of(selector: &Selector) -> u64
 
 #[cycle(nesting)]
 fn deepest(selectors: &[Selector]) -> u64
-    ensures { result ≡ min (depth_of_all (forms_of (forms selectors.now))) (2 ^ 64 - 1) }
+    ensures { result ≡ capped (deepest (forms_of (forms selectors.now))) }
 {
     let mut most: u64 = 0;
     for selector in selectors {
@@ -38,7 +39,7 @@ fn deepest(selectors: &[Selector]) -> u64
 }
 
 fn one_more(n: u64) -> u64
-    ensures { result ≡ min (n + 1) (2 ^ 64 - 1) }
+    ensures { result ≡ capped (n + 1) }
 {
     n.saturating_add(1)
 }

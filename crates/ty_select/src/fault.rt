@@ -37,7 +37,7 @@ pub enum Wanted {
 pub enum SelectFault {
     /// What stands at this byte, counted from 0, can't follow there.
     Bad { at: usize, wanted: Wanted },
-    /// A `(` or a `!` stands at this byte, in its place, where 64 of them are open already.
+    /// A `(` or a `!` stands at this byte, in its place, where `MOST_OPEN` of them are open already.
     TooDeep { at: usize },
     /// Memory ran out.
     NoMemory,

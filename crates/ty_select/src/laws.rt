@@ -1,11 +1,17 @@
 // Laws of the definitions, for every selector.
-ghost use Rattle.std.specs.Prelude.{◌≡◌, ◌≤◌, Ok};
+ghost use Rattle.std.specs.Prelude.{◌≡◌, ◌≤◌, List, ℕ, Ok};
+ghost use Rattle.ty_select.specs.declared.limits.TheConstants.{MOST_OPEN};
 ghost use Rattle.ty_select.specs.Forms.{Form};
 ghost use Rattle.ty_select.specs.Printable.{IsPrintable};
-ghost use Rattle.ty_select.specs.Printing.{printed, depth};
-ghost use Rattle.ty_select.specs.Reading.{selector_of};
+ghost use Rattle.ty_select.specs.Text.{printed, depth};
+ghost use Rattle.ty_select.specs.Expressions.{selector_of};
 
-/// What is printed is read again, where no more than 64 `!` and `(` are open at once.
+/// What is printed is read again, where no more than `MOST_OPEN` of `!` and `(` are open at once.
 pub fn printed_reads_back()
-    ensures { (f : Form) → IsPrintable f → depth f ≤ 64 → selector_of (printed f) ≡ Ok f }
+    ensures { (f : Form) → IsPrintable f → depth f ≤ MOST_OPEN → selector_of (printed f) ≡ Ok f }
+{}
+
+/// What is read can be printed, so that its text reads back where no more than `MOST_OPEN` are open there.
+pub fn what_is_read_is_printable()
+    ensures { (text : List ℕ) (f : Form) → selector_of text ≡ Ok f → IsPrintable f }
 {}

@@ -2,18 +2,22 @@
 #![tactic(auto)]
 
 mod depth;
+mod expression;
 mod fault;
 mod laws;
+mod limits;
 mod piece;
-mod printing;
-mod reading;
 mod selector;
 mod term;
+mod text;
 mod token;
+mod word;
 
 pub use fault::{SelectFault, Wanted};
-pub use laws::printed_reads_back;
+pub use laws::{printed_reads_back, what_is_read_is_printable};
+pub use limits::{MOST_OPEN, WORD_BYTES};
 pub use selector::{Selector, Selectors, Texts};
+pub use word::is_word;
 
 #[cfg(test)]
 mod tests;

@@ -1,7 +1,8 @@
 // The pieces of a selector's text: marks, words, quoted texts and sets.
 ghost use Rattle.std.specs.Prelude.{◌≡◌, length};
 ghost use Rattle.std.specs.Str.{bytes_eq};
-ghost use Rattle.ty_select.specs.Reading.{Gives, mark, text, word, texts_from, texts, set};
+ghost use Rattle.ty_select.specs.Expressions.{mark, token_text, word, texts_from, texts, set};
+ghost use Rattle.ty_select.specs.steps.Returns.{Returns};
 
 use crate::fault::{Stop, Wanted};
 use crate::selector::Texts;
@@ -20,9 +21,9 @@ pub(crate) fn bad(here: &[u8], wanted: Wanted) -> Stop
 }
 
 /// What follows a mark.
-#[tactic(auto, unfolding(crate::specs::Reading::mark))]
+#[tactic(auto, unfolding(crate::specs::Expressions::mark))]
 pub(crate) fn mark(kind: Kind, wanted: Wanted, bytes: &[u8]) -> Result<&[u8], Stop>
-    ensures { Gives (λ rest. rest.now) result (mark kind wanted bytes.now) }
+    ensures { Returns (λ rest. rest.now) result (mark kind wanted bytes.now) }
 {
     let token = next(bytes);
     if same_kind(token.kind, kind) {
@@ -33,9 +34,9 @@ pub(crate) fn mark(kind: Kind, wanted: Wanted, bytes: &[u8]) -> Result<&[u8], St
 }
 
 /// What follows a word of this name.
-#[tactic(auto, unfolding(crate::specs::Reading::word))]
+#[tactic(auto, unfolding(crate::specs::Expressions::word))]
 pub(crate) fn word<'a>(name: &str, wanted: Wanted, bytes: &'a [u8]) -> Result<&'a [u8], Stop>
-    ensures { Gives (λ rest. rest.now) result (word name.now wanted bytes.now) }
+    ensures { Returns (λ rest. rest.now) result (word name.now wanted bytes.now) }
 {
     let token = next(bytes);
     if same_kind(token.kind, Kind::Word) && is(token.text, name) {
@@ -53,14 +54,14 @@ pub(crate) fn is(text: &str, name: &str) -> bool
 }
 
 /// A word or a quoted text, and what follows it.
-#[tactic(auto, unfolding(crate::specs::Reading::text))]
+#[tactic(auto, unfolding(crate::specs::Expressions::token_text))]
 pub(crate) fn text(
     alloc: Global,
     kind: Kind,
     wanted: Wanted,
     bytes: &[u8],
 ) -> Result<(Text, &[u8]), Stop>
-    ensures { Gives (λ x. (x.0, x.1.now)) result (text kind wanted bytes.now) }
+    ensures { Returns (λ x. (x.0, x.1.now)) result (token_text kind wanted bytes.now) }
 {
     let token = next(bytes);
     if !same_kind(token.kind, kind) {
@@ -70,9 +71,9 @@ pub(crate) fn text(
 }
 
 /// Quoted texts in braces, and what follows them.
-#[tactic(auto, unfolding(crate::specs::Reading::set))]
+#[tactic(auto, unfolding(crate::specs::Expressions::set))]
 pub(crate) fn set(alloc: Global, bytes: &[u8]) -> Result<(Texts, &[u8]), Stop>
-    ensures { Gives (λ x. (x.0, x.1.now)) result (set bytes.now) }
+    ensures { Returns (λ x. (x.0, x.1.now)) result (set bytes.now) }
 {
     let inside = mark(Kind::LeftBrace, Wanted::Brace, bytes)?;
     let token = next(inside);
@@ -85,9 +86,9 @@ pub(crate) fn set(alloc: Global, bytes: &[u8]) -> Result<(Texts, &[u8]), Stop>
     texts(alloc, inside)
 }
 
-#[tactic(auto, unfolding(crate::specs::Reading::texts))]
+#[tactic(auto, unfolding(crate::specs::Expressions::texts))]
 fn texts(alloc: Global, bytes: &[u8]) -> Result<(Texts, &[u8]), Stop>
-    ensures { Gives (λ x. (x.0, x.1.now)) result (texts bytes.now) }
+    ensures { Returns (λ x. (x.0, x.1.now)) result (texts bytes.now) }
 {
     let (first, rest) = text(alloc, Kind::Quoted, Wanted::QuotedOrBrace, bytes)?;
     texts_from(alloc, first, rest)
@@ -95,7 +96,7 @@ fn texts(alloc: Global, bytes: &[u8]) -> Result<(Texts, &[u8]), Stop>
 
 // The texts of a set from its first one on.
 fn texts_from(alloc: Global, first: Text, bytes: &[u8]) -> Result<(Texts, &[u8]), Stop>
-    ensures { Gives (λ x. (x.0, x.1.now)) result (texts_from first bytes.now) }
+    ensures { Returns (λ x. (x.0, x.1.now)) result (texts_from first bytes.now) }
 {
     let mut list = Vec::new(alloc);
     list.push(first)?;

@@ -1,7 +1,8 @@
 // A term that begins with a word: a function or a label's test.
 ghost use Rattle.std.specs.Prelude.{◌≡◌, codes};
 ghost use Rattle.ty_select.specs.Forms.{form, all, global};
-ghost use Rattle.ty_select.specs.Reading.{Gives, operator_of, operand, quoted, test, membership, constant, primary, word};
+ghost use Rattle.ty_select.specs.Expressions.{operator_of, operand, quoted, test, membership, constant, primary, word};
+ghost use Rattle.ty_select.specs.steps.Returns.{Returns};
 
 use crate::fault::{Stop, Wanted};
 use crate::piece::{bad, is, mark, set, text, word};
@@ -26,13 +27,13 @@ pub(crate) enum Operator {
 }
 
 /// A term from behind its first word on, and what follows it.
-#[tactic(auto, unfolding(crate::specs::Reading::primary))]
+#[tactic(auto, unfolding(crate::specs::Expressions::primary))]
 pub(crate) fn primary<'a>(
     alloc: Global,
     name: &str,
     bytes: &'a [u8],
 ) -> Result<(Selector, &'a [u8]), Stop>
-    ensures { Gives (λ x. (form x.0, x.1.now)) result (primary name.now bytes.now) }
+    ensures { Returns (λ x. (form x.0, x.1.now)) result (primary name.now bytes.now) }
 {
     let token = next(bytes);
     let called = same_kind(token.kind, Kind::Open);
@@ -47,34 +48,34 @@ pub(crate) fn primary<'a>(
     }
 }
 
-#[tactic(auto, unfolding(crate::specs::Reading::constant))]
+#[tactic(auto, unfolding(crate::specs::Expressions::constant))]
 fn constant_all(bytes: &[u8]) -> Result<(Selector, &[u8]), Stop>
-    ensures { Gives (λ x. (form x.0, x.1.now)) result (constant all bytes.now) }
+    ensures { Returns (λ x. (form x.0, x.1.now)) result (constant all bytes.now) }
 {
     let rest = mark(Kind::Close, Wanted::Close, bytes)?;
     Ok((Selector::All, rest))
 }
 
-#[tactic(auto, unfolding(crate::specs::Reading::constant))]
+#[tactic(auto, unfolding(crate::specs::Expressions::constant))]
 fn constant_global(bytes: &[u8]) -> Result<(Selector, &[u8]), Stop>
-    ensures { Gives (λ x. (form x.0, x.1.now)) result (constant global bytes.now) }
+    ensures { Returns (λ x. (form x.0, x.1.now)) result (constant global bytes.now) }
 {
     let rest = mark(Kind::Close, Wanted::Close, bytes)?;
     Ok((Selector::Global, rest))
 }
 
-#[tactic(auto, unfolding(crate::specs::Reading::membership))]
+#[tactic(auto, unfolding(crate::specs::Expressions::membership))]
 fn membership(alloc: Global, bytes: &[u8]) -> Result<(Selector, &[u8]), Stop>
-    ensures { Gives (λ x. (form x.0, x.1.now)) result (membership bytes.now) }
+    ensures { Returns (λ x. (form x.0, x.1.now)) result (membership bytes.now) }
 {
     let (label, rest) = text(alloc, Kind::Word, Wanted::Label, bytes)?;
     let rest = mark(Kind::Close, Wanted::Close, rest)?;
     Ok((Selector::Has(label), rest))
 }
 
-#[tactic(auto, unfolding(crate::specs::Reading::test))]
+#[tactic(auto, unfolding(crate::specs::Expressions::test))]
 fn test(alloc: Global, label: Text, bytes: &[u8]) -> Result<(Selector, &[u8]), Stop>
-    ensures { Gives (λ x. (form x.0, x.1.now)) result (test label bytes.now) }
+    ensures { Returns (λ x. (form x.0, x.1.now)) result (test label bytes.now) }
 {
     let token = next(bytes);
     match operator_of(token.kind, token.text) {
@@ -121,7 +122,7 @@ fn operand(
     operator: Operator,
     bytes: &[u8],
 ) -> Result<(Selector, &[u8]), Stop>
-    ensures { Gives (λ x. (form x.0, x.1.now)) result (operand label operator bytes.now) }
+    ensures { Returns (λ x. (form x.0, x.1.now)) result (operand label operator bytes.now) }
 {
     match operator {
         Operator::Equal => {
@@ -159,13 +160,13 @@ fn operand(
 }
 
 fn with(bytes: &[u8]) -> Result<&[u8], Stop>
-    ensures { Gives (λ rest. rest.now) result (word (codes "with") Wanted.With bytes.now) }
+    ensures { Returns (λ rest. rest.now) result (word (codes "with") Wanted.With bytes.now) }
 {
     word("with", Wanted::With, bytes)
 }
 
 fn quoted(alloc: Global, bytes: &[u8]) -> Result<(Text, &[u8]), Stop>
-    ensures { Gives (λ x. (x.0, x.1.now)) result (quoted bytes.now) }
+    ensures { Returns (λ x. (x.0, x.1.now)) result (quoted bytes.now) }
 {
     text(alloc, Kind::Quoted, Wanted::Quoted, bytes)
 }

@@ -1,8 +1,11 @@
 // One token of a selector's text, and what follows it.
 ghost use Rattle.std.specs.Prelude.{◌≡◌, ◌+◌, ◌==◌, length, slice_index, drop, take, []};
 ghost use Rattle.std.specs.List.{prefix_len, position_or_len};
-ghost use Rattle.ty_select.specs.Tokens.{is_blank, is_word_byte as is_word, is_quote as is_quoting, mark_kind, width, seen, lexeme, token_at, word_at, quoted_at, mark_at, same_kind};
+ghost use Rattle.ty_select.specs.Words.{is_word_byte};
+ghost use Rattle.ty_select.specs.Tokens.{is_blank, is_quote as is_quoting, mark_kind, width, lexeme, token_at, word_at, quoted_at, mark_at, same_kind};
+ghost use Rattle.ty_select.specs.steps.Tokens.{lexeme_of};
 
+use crate::word::{is_word_byte, is_word_len};
 use std::str;
 
 /// What kind of token it is.
@@ -38,9 +41,6 @@ pub(crate) struct Token<'a> {
     pub rest: &'a [u8],
 }
 
-/// The most bytes that a word has.
-const LONGEST_WORD: usize = 512;
-
 /// The first token of a text, after blanks.
 #[tactic(auto, unfolding(crate::specs::Tokens::lexeme))]
 pub(crate) fn next(bytes: &[u8]) -> Token<'_>
@@ -61,7 +61,7 @@ pub(crate) fn same_kind(one: Kind, other: Kind) -> bool
 
 // The first token of a text that doesn't begin with a blank.
 fn token_at(here: &[u8]) -> Token<'_>
-    ensures { seen result ≡ token_at here.now }
+    ensures { lexeme_of result ≡ token_at here.now }
 {
     if here.is_empty() {
         return nothing(Kind::End, here);
@@ -78,7 +78,7 @@ fn token_at(here: &[u8]) -> Token<'_>
 
 // A token from which nothing is taken.
 fn nothing(kind: Kind, here: &[u8]) -> Token<'_>
-    ensures { seen result ≡ record { kind = kind; here = here.now; text = []; rest = here.now } }
+    ensures { lexeme_of result ≡ record { kind = kind; here = here.now; text = []; rest = here.now } }
 {
     Token {
         kind,
@@ -107,12 +107,6 @@ fn is_blank(byte: u8) -> bool
     byte == b' ' || byte == b'\t'
 }
 
-fn is_word_byte(byte: u8) -> bool
-    ensures { result ≡ is_word byte }
-{
-    byte.is_ascii_alphanumeric() || byte == b'_' || byte == b'.' || byte == b'/' || byte == b'-'
-}
-
 fn is_quote(byte: u8) -> bool
     ensures { result ≡ is_quoting byte }
 {
@@ -131,7 +125,7 @@ fn after(bytes: &[u8], count: usize) -> &[u8]
 }
 
 fn word_len(here: &[u8]) -> usize
-    ensures { result ≡ prefix_len is_word here.now }
+    ensures { result ≡ prefix_len is_word_byte here.now }
 {
     let mut count = 0;
     for byte in here {
@@ -144,10 +138,10 @@ fn word_len(here: &[u8]) -> usize
 }
 
 fn word_at(here: &[u8]) -> Token<'_>
-    ensures { seen result ≡ word_at here.now }
+    ensures { lexeme_of result ≡ word_at here.now }
 {
     let count = word_len(here);
-    if LONGEST_WORD < count {
+    if !is_word_len(count) {
         return nothing(Kind::Junk, here);
     }
     let Ok(text) = str::from_utf8(&here[..count]) else {
@@ -174,7 +168,7 @@ fn place_of(byte: u8, bytes: &[u8]) -> usize
 }
 
 fn quoted_at(here: &[u8], quote: u8) -> Token<'_>
-    ensures { seen result ≡ quoted_at here.now quote }
+    ensures { lexeme_of result ≡ quoted_at here.now quote }
 {
     let body = after(here, 1);
     let count = place_of(quote, body);
@@ -193,7 +187,7 @@ fn quoted_at(here: &[u8], quote: u8) -> Token<'_>
 }
 
 fn mark_at(here: &[u8]) -> Token<'_>
-    ensures { seen result ≡ mark_at here.now }
+    ensures { lexeme_of result ≡ mark_at here.now }
 {
     let kind = mark_kind(byte_at(here, 0), byte_at(here, 1));
     Token {

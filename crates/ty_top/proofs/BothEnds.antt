@@ -1,18 +1,19 @@
 -- What one writes and the other reads.
-use Rattle.std.proofs.Common.{◌≡◌, ℕ, ◌^◌, ◌<◌, ◌≤◌, Bool, true, List, [], length, sym, ap, subst, ◌∙◌, arith}
+use Rattle.std.proofs.Common.{◌≡◌, ℕ, ◌^◌, ◌<◌, Bool, true, List, [], length, sym, ap, subst, ◌∙◌, arith}
 use Rattle.std.specs.Prelude.{Option, None, Some}
 use Rattle.std.specs.Io.KnownBytes.{Appends}
-use Rattle.ty_base.specs.Feed.{last}
-use Rattle.ty_client.specs.Following.{Seen, Ended}
-use Rattle.ty_client.specs.Texts.{text_of}
+use Rattle.ty_base.specs.Devices.{Seen}
+use Rattle.ty_client.specs.Followed.{Ended}
+use Rattle.ty_client.specs.Text.{rebuilt_text}
 use Rattle.ty_intake.specs.Lines.{Feed as FeedSoFar}
-use Rattle.ty_intake.specs.Faults.{fault_of}
+use Rattle.ty_intake.specs.Faults.{feed_fault}
 use Rattle.ty_intake.specs.Batches.{items_of}
-use Rattle.ty_intake.proofs.Joining.{few-of}
+use Rattle.ty_intake.proofs.JoinedBatches.{few-of}
+use Rattle.ty_base.specs.Limits.{AreSmall}
 use Rattle.ty_top.specs.Streamed.{streamed, worlds_from}
-use Rattle.ty_top.specs.Endings.{Taken, Streams}
-use Rattle.ty_top.specs.declared.ending.Ending.TheVariants.{Done}
-use Rattle.ty_top.proofs.Followings.{told}
+use Rattle.ty_top.specs.Endings.{Taken, Streams, whole_feed}
+use Rattle.ty_top.specs.declared.ending.StreamEnd.TheVariants.{Done}
+use Rattle.ty_top.proofs.FollowedStreams.{told, all_taken}
 
 -- known bytes behind none
 
@@ -20,21 +21,24 @@ appended : (new : Option (List ℕ)) (text : List ℕ) → Appends (Some []) new
 appended None text h = absurd h
 appended (Some ys) text h = ap (λ (x : List ℕ). Some x) h
 
-pub both_ends : (j : ℕ) (brief : Bool) (server server_after client client_after : Seen) (bytes : List ℕ)
-    → Streams j Done server server_after → server.held ≡ Some [] → server_after.held ≡ Some bytes
-    → Ended brief client client_after [] → client.left ≡ Some bytes → client.held ≡ Some []
-    → (read : FeedSoFar) × Taken server server_after read × (fault_of read ≡ None)
-    × (j ≤ last true (items_of read) → client_after.held ≡ Some (text_of brief (worlds_from (items_of read) j)))
-both_ends j brief server server_after client client_after bytes s empty given e all none =
+-- a feed that was read to its end
+pub all_read : (old new : Seen) (read : FeedSoFar) (bytes : List ℕ) → Taken old new read → read.ended ≡ true → old.source.left ≡ Some bytes → read ≡ whole_feed bytes
+all_read old new read bytes t e h =
+    let same : read.bytes ≡ bytes = all_taken old.source.left new.source.left bytes read.bytes h t.bytes (t.end e) in
+    λ i. record { bytes = same i; ended = e i }
+
+pub both_ends : (j : ℕ) (brief : Bool) (server server_after client client_after : Seen) (feed bytes : List ℕ)
+    → Streams j Done server server_after → server.source.left ≡ Some feed → server.sink.held ≡ Some [] → server_after.sink.held ≡ Some bytes
+    → Ended brief client client_after [] → client.source.left ≡ Some bytes → client.sink.held ≡ Some []
+    → (feed_fault (whole_feed feed) ≡ None) × (client_after.sink.held ≡ Some (rebuilt_text brief (worlds_from (items_of (whole_feed feed)) j)))
+both_ends j brief server server_after client client_after feed bytes s left empty given e all none =
     let read = s.0 in
-    let wrote : server_after.held ≡ Some (streamed (items_of read) j) =
-    appended server_after.held (streamed (items_of read) j) (subst (λ (o : Option (List ℕ)). Appends o server_after.held (streamed (items_of read) j)) empty s.5) in
-    let few : length (items_of read) < 2 ^ 64 = omega (arith, few-of read) in (
-      read,
-      s.1,
-      s.3,
-      λ h.
-          let text : List ℕ = text_of brief (worlds_from (items_of read) j) in
-          let printed : Appends client.held client_after.held text = told brief (items_of read) j client client_after s.4 few h (all ∙ sym given ∙ wrote) e in
-          appended client_after.held text (subst (λ (o : Option (List ℕ)). Appends o client_after.held text) none printed),
-    )
+    let items = items_of read in
+    let wrote : server_after.sink.held ≡ Some (streamed items j) =
+    appended server_after.sink.held (streamed items j) (subst (λ (o : Option (List ℕ)). Appends o server_after.sink.held (streamed items j)) empty s.5) in
+    let few : length items < 2 ^ 64 = omega (arith, few-of read) in
+    let text : List ℕ = rebuilt_text brief (worlds_from items j) in
+    let printed : Appends client.sink.held client_after.sink.held text = told brief items j client client_after s.4 few (all ∙ sym given ∙ wrote) e in
+    let shown : client_after.sink.held ≡ Some text = appended client_after.sink.held text (subst (λ (o : Option (List ℕ)). Appends o client_after.sink.held text) none printed) in
+    let P : FeedSoFar → Type 0 = λ f. (feed_fault f ≡ None) × (client_after.sink.held ≡ Some (rebuilt_text brief (worlds_from (items_of f) j))) in
+    subst P (all_read server server_after read feed s.1 s.2 left) (s.3, shown)

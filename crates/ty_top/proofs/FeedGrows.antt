@@ -9,8 +9,8 @@ use Rattle.ty_base.specs.Feed.{is_update, is_closing, closings, last_of}
 use Rattle.ty_base.proofs.Cuts.{range_split}
 use Rattle.ty_intake.specs.declared.batch.Closed.{Closed}
 use Rattle.ty_intake.specs.Lines.{Feed, onto_first, cut_lines, cut_of, is_too_much, last_line, lines_of}
-use Rattle.ty_intake.specs.Faults.{fault_of}
-use Rattle.ty_intake.specs.Saying.{item_by}
+use Rattle.ty_intake.specs.Faults.{feed_fault}
+use Rattle.ty_intake.specs.Line.{item_by}
 use Rattle.ty_intake.specs.Batches.{is_good, items_of, is_whole, batches_between, batches, batches_of}
 
 -- lines
@@ -150,4 +150,4 @@ batches_grow feed now piece e f b =
     )
   where
     open_is : (x : Feed) → x.ended ≡ false → is_whole x ≡ false
-    open_is x h = ap (λ v. v && not (is_some (fault_of x))) h
+    open_is x h = ap (λ v. v && not (is_some (feed_fault x))) h

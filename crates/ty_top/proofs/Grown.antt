@@ -12,16 +12,16 @@ use Rattle.ty_base.specs.declared.status.Status.{Status}
 use Rattle.ty_base.specs.Feed.{World, after, folded, is_update, is_closing, closings, cuts_after, cuts, last, world_at, same_world, last_of, key_of, firsts, changes, deltas, entry, book, replay}
 use Rattle.ty_crumb.specs.Batches.{IsClosed, IsNextBatch, entry_of, next_entries}
 use Rattle.ty_crumb.specs.declared.crumb.Crumb.{Crumb}
-use Rattle.ty_crumb.specs.Crumbs.{Stands, snapshot_of}
-use Rattle.ty_crumb.proofs.Growing.{the_book_grows}
+use Rattle.ty_crumb.specs.Crumbs.{CrumbStands, snapshot_of}
+use Rattle.ty_crumb.proofs.Book.{the_book_grows}
 use Rattle.ty_intake.specs.declared.batch.Closed.{Closed}
 use Rattle.ty_intake.specs.Batches.{batches}
 use Rattle.ty_wire.specs.Wire.{frames, frame}
-use Rattle.ty_wire.specs.Talk.{talk, group, groups_after, status_change}
+use Rattle.ty_wire.specs.Talk.{talk, group_messages, groups_after, status_change}
 use Rattle.ty_wire.specs.declared.message.Msg.{Msg}
 use Rattle.ty_wire.specs.declared.message.Msg.TheVariants.{ServerHello}
 use Rattle.ty_top.specs.Streamed.{streamed}
-use Rattle.ty_top.specs.Publishing.{crumb_messages, joined}
+use Rattle.ty_top.specs.steps.Publisher.{crumb_messages, joined}
 use Rattle.ty_top.proofs.Told.{told, told_after, told_first, told_before, none_yet}
 use Rattle.ty_top.proofs.NextBatch.{IsNext, next_of, joined_more}
 
@@ -132,13 +132,13 @@ all_more j ended items (b ∷ rest) done w =
 
 -- A breadcrumb
 
-pub crumb_told : (es : List Entry) (e : Entry) (j : ℕ) (s : Status) (c : Crumb) → s ≡ (replay es).status → Stands c (es ++ e ∷ []) → told (es ++ e ∷ []) j ≡ told es j ++ crumb_messages j s c
+pub crumb_told : (es : List Entry) (e : Entry) (j : ℕ) (s : Status) (c : Crumb) → s ≡ (replay es).status → CrumbStands c (es ++ e ∷ []) → told (es ++ e ∷ []) j ≡ told es j ++ crumb_messages j s c
 crumb_told es e j s c at st =
     let longer : List Entry = es ++ e ∷ [] in
     let n : c.number ≡ length es + 1 = st.number ∙ length-append es (e ∷ []) in
     let ds : c.deltas ≡ e.deltas = st.deltas ∙ fold_push (λ _ x. x.deltas) [] es e in
-    let first : List Msg = group (snapshot_of c.pairs) (Some c.status) c.number in
-    let later : List Msg = group c.deltas (status_change s c.status) c.number in
+    let first : List Msg = group_messages (snapshot_of c.pairs) (Some c.status) c.number in
+    let later : List Msg = group_messages c.deltas (status_change s c.status) c.number in
     elim (leb_tells j (length es)) [
       | inl h ↦
           let le : j ≤ length es = h.1 in
@@ -146,10 +146,10 @@ crumb_told es e j s c at st =
           ∙ ap (λ ms. told es j ++ ms) (sym (
           ap (λ b. cond b [] (cond (c.number == j) first later)) (le-ltb c.number j (omega (arith, n)))
           ∙ ap (λ b. cond b first later) (ne_eqb c.number j (λ x. omega (arith, n)))
-          ∙ ap (λ d. group d (status_change s c.status) c.number) ds
-          ∙ ap (λ t. group e.deltas (status_change t c.status) c.number) at
-          ∙ ap (λ (w : World). group e.deltas (status_change (replay es).status w.status) c.number) st.world
-          ∙ ap (λ k. group e.deltas (status_change (replay es).status (replay longer).status) k) n))
+          ∙ ap (λ d. group_messages d (status_change s c.status) c.number) ds
+          ∙ ap (λ t. group_messages e.deltas (status_change t c.status) c.number) at
+          ∙ ap (λ (w : World). group_messages e.deltas (status_change (replay es).status w.status) c.number) st.world
+          ∙ ap (λ k. group_messages e.deltas (status_change (replay es).status (replay longer).status) k) n))
       | inr h ↦
           let over : length es + 1 ≤ j = omega (arith, h.1) in
           elim (eq-or-lt_of_le over) [
@@ -158,8 +158,8 @@ crumb_told es e j s c at st =
                 ∙ ap (λ ms. told es j ++ ms) (sym (
                 ap (λ b. cond b [] (cond (c.number == j) first later)) (le-ltb c.number j (omega (arith, n)))
                 ∙ ap (λ b. cond b first later) (eq-eqb c.number j (n ∙ i))
-                ∙ ap (λ (w : World). group (snapshot_of w.pairs) (Some w.status) c.number) st.world
-                ∙ ap (λ k. group (snapshot_of (replay longer).pairs) (Some (replay longer).status) k) n))
+                ∙ ap (λ (w : World). group_messages (snapshot_of w.pairs) (Some w.status) c.number) st.world
+                ∙ ap (λ k. group_messages (snapshot_of (replay longer).pairs) (Some (replay longer).status) k) n))
             | inr r ↦
                 told_before es e j r
                 ∙ sym (append-nil (told es j))
@@ -168,19 +168,19 @@ crumb_told es e j s c at st =
     ]
 
 -- behind the server hello
-pub crumb_opens : (j : ℕ) (s : Status) (c : Crumb) → Stands c [] → told [] j ≡ ServerHello 1 ∷ crumb_messages j s c
+pub crumb_opens : (j : ℕ) (s : Status) (c : Crumb) → CrumbStands c [] → told [] j ≡ ServerHello 1 ∷ crumb_messages j s c
 unfolding replay groups_after
 crumb_opens j s c st =
     opens j
   where
     opens : (j : ℕ) → told [] j ≡ ServerHello 1 ∷ crumb_messages j s c
     opens zero =
-        append-nil (ServerHello 1 ∷ group (snapshot_of (replay []).pairs) (Some (replay []).status) 0)
+        append-nil (ServerHello 1 ∷ group_messages (snapshot_of (replay []).pairs) (Some (replay []).status) 0)
         ∙ ap (λ ms. ServerHello 1 ∷ ms) (sym (
-        ap (λ b. cond b [] (cond (c.number == 0) (group (snapshot_of c.pairs) (Some c.status) c.number) (group c.deltas (status_change s c.status) c.number))) (le-ltb c.number 0 (omega arith))
-        ∙ ap (λ b. cond b (group (snapshot_of c.pairs) (Some c.status) c.number) (group c.deltas (status_change s c.status) c.number)) (eq-eqb c.number 0 st.number)
-        ∙ ap (λ (w : World). group (snapshot_of w.pairs) (Some w.status) c.number) st.world
-        ∙ ap (λ k. group (snapshot_of (replay []).pairs) (Some (replay []).status) k) st.number))
+        ap (λ b. cond b [] (cond (c.number == 0) (group_messages (snapshot_of c.pairs) (Some c.status) c.number) (group_messages c.deltas (status_change s c.status) c.number))) (le-ltb c.number 0 (omega arith))
+        ∙ ap (λ b. cond b (group_messages (snapshot_of c.pairs) (Some c.status) c.number) (group_messages c.deltas (status_change s c.status) c.number)) (eq-eqb c.number 0 st.number)
+        ∙ ap (λ (w : World). group_messages (snapshot_of w.pairs) (Some w.status) c.number) st.world
+        ∙ ap (λ k. group_messages (snapshot_of (replay []).pairs) (Some (replay []).status) k) st.number))
     opens (suc k) =
         none_yet [] (suc k) (omega arith)
-        ∙ ap (λ ms. ServerHello 1 ∷ ms) (sym (ap (λ b. cond b [] (cond (c.number == suc k) (group (snapshot_of c.pairs) (Some c.status) c.number) (group c.deltas (status_change s c.status) c.number))) (lt-ltb c.number (suc k) (omega (arith, st.number)))))
+        ∙ ap (λ ms. ServerHello 1 ∷ ms) (sym (ap (λ b. cond b [] (cond (c.number == suc k) (group_messages (snapshot_of c.pairs) (Some c.status) c.number) (group_messages c.deltas (status_change s c.status) c.number))) (lt-ltb c.number (suc k) (omega (arith, st.number)))))

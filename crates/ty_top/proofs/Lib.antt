@@ -6,7 +6,8 @@ pub mod NextBatch
 pub mod Grown
 pub mod Published
 pub mod FeedGrows
-pub mod ReadSoFar
-pub mod Ends
-pub mod Followings
+pub mod StreamReading
+pub mod Statuses
+pub mod FollowedStreams
 pub mod BothEnds
+pub mod Complete

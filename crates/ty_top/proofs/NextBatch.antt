@@ -11,10 +11,10 @@ use Rattle.ty_base.specs.declared.item.Item.{Item}
 use Rattle.ty_base.specs.declared.item.Item.TheVariants.{Mark}
 use Rattle.ty_base.specs.Feed.{is_update, is_closing, closings}
 use Rattle.ty_crumb.specs.Batches.{IsBatch, IsClosed, IsNextBatch}
-use Rattle.ty_crumb.specs.Limits.{items_fit}
+use Rattle.ty_base.specs.Limits.{items_fit}
 use Rattle.ty_intake.specs.declared.batch.Closed.{Closed}
 use Rattle.ty_intake.specs.Batches.{batches_between, batches}
-use Rattle.ty_top.specs.Publishing.{joined}
+use Rattle.ty_top.specs.steps.Publisher.{joined}
 
 -- behind the batches bs the next one is b, and there are at least this many items
 pub record IsNext (count : ℕ) (bs : List Closed) (b : Closed) : Type 0 where

@@ -18,39 +18,40 @@ use Rattle.ty_base.specs.Causes.{Rose}
 use Rattle.ty_base.proofs.Known.{Appends-then, Appends-same, AppendsFront-more, AppendsFront-after}
 use Rattle.ty_crumb.specs.Batches.{IsBatch, IsClosed, IsNextBatch, entry_of, next_entries}
 use Rattle.ty_crumb.specs.declared.crumb.Crumb.{Crumb}
-use Rattle.ty_crumb.specs.declared.next.Made.{Made}
-use Rattle.ty_crumb.specs.declared.next.Made.TheVariants.{Unchanged, Crumb as Next}
-use Rattle.ty_crumb.specs.Crumbs.{Stands, world_of, last_cut, entries_of, IsMadeFor}
-use Rattle.ty_crumb.proofs.Growing.{the_book_grows}
+use Rattle.ty_crumb.specs.declared.successor.Made.{Made}
+use Rattle.ty_crumb.specs.declared.successor.Made.TheVariants.{Unchanged, Crumb as Next}
+use Rattle.ty_crumb.specs.Crumbs.{CrumbStands, world_of, last_cut, entries_of, IsMadeFor}
+use Rattle.ty_crumb.proofs.Book.{the_book_grows}
 use Rattle.ty_wire.specs.Wire.{frame, frames}
 use Rattle.ty_wire.specs.declared.message.Msg.TheVariants.{ServerHello}
 use Rattle.ty_top.proofs.Told.{told}
 use Rattle.ty_top.specs.Streamed.{streamed}
-use Rattle.ty_top.specs.Publishing.{Gave, crumb_messages, joined, CrumbOf, Owed, IsPublished, IsFedPublished, gone_on}
-use Rattle.ty_top.specs.declared.ending.Ending.{Ending}
+use Rattle.ty_top.specs.steps.Publisher.{Gave, crumb_messages, joined, CrumbOf, Owed, AreGiven, AreGivenAndTold, gone_on}
+use Rattle.ty_base.specs.Devices.{Output}
+use Rattle.ty_top.specs.declared.publisher.Stop.{Stop}
 use Rattle.ty_intake.specs.declared.intake.IntakeFault.{IntakeFault}
-use Rattle.ty_top.specs.declared.publishing.Unwritten.{Unwritten}
-use Rattle.ty_top.specs.declared.publishing.Unwritten.TheVariants.{Sink, Memory as Short}
+use Rattle.ty_top.specs.declared.publisher.Unwritten.{Unwritten}
+use Rattle.ty_top.specs.declared.publisher.Unwritten.TheVariants.{Sink as NoRoom, Memory as Short}
 use Rattle.ty_top.proofs.Grown.{book_same, grown_same, grown_by, one_more, all_more, crumb_told, crumb_opens, streamed_is}
 
 -- What was given
 
-pub gave_then : (r : Result (Unit {0}) Unwritten) (a b c : Option (List ℕ)) (n m k : ℕ) (xs ys : List ℕ) → Gave (Ok tt) a b n m xs → Gave r b c m k ys → Gave r a c n k (xs ++ ys)
-gave_then (Ok u) a b c n m k xs ys g h = (Appends-then a b c xs ys g.0 h.0, omega (arith, g.1, h.1))
-gave_then (Err Sink) a b c n m k xs ys g h = (AppendsFront-after a b c xs ys g.0 h.0, rose n m k g.1 h.1, omega (arith, g.1, h.2))
+pub gave_then : (r : Result (Unit {0}) Unwritten) (a b c : Output) (xs ys : List ℕ) → Gave (Ok tt) a b xs → Gave r b c ys → Gave r a c (xs ++ ys)
+gave_then (Ok u) a b c xs ys g h = (Appends-then a.held b.held c.held xs ys g.0 h.0, omega (arith, g.1, h.1))
+gave_then (Err NoRoom) a b c xs ys g h = (AppendsFront-after a.held b.held c.held xs ys g.0 h.0, rose a.faults b.faults c.faults g.1 h.1, omega (arith, g.1, h.2))
   where
     rose : (n m k : ℕ) → n ≤ m → Rose m k → Rose n k
     rose n m k l r = omega (arith, l, r)
-gave_then (Err Short) a b c n m k xs ys g h = (AppendsFront-after a b c xs ys g.0 h.0, omega (arith, g.1, h.1))
+gave_then (Err Short) a b c xs ys g h = (AppendsFront-after a.held b.held c.held xs ys g.0 h.0, omega (arith, g.1, h.1))
 
-gave_more : (e : Unwritten) (a b : Option (List ℕ)) (n m : ℕ) (xs ys : List ℕ) → Gave (Err e) a b n m xs → Gave (Err e) a b n m (xs ++ ys)
-gave_more Sink a b n m xs ys g = (AppendsFront-more a b xs ys g.0, g.1, g.2)
-gave_more Short a b n m xs ys g = (AppendsFront-more a b xs ys g.0, g.1)
+gave_more : (e : Unwritten) (a b : Output) (xs ys : List ℕ) → Gave (Err e) a b xs → Gave (Err e) a b (xs ++ ys)
+gave_more NoRoom a b xs ys g = (AppendsFront-more a.held b.held xs ys g.0, g.1, g.2)
+gave_more Short a b xs ys g = (AppendsFront-more a.held b.held xs ys g.0, g.1)
 
-pub gave_later : (r : Result (Unit {0}) Unwritten) (a b : Option (List ℕ)) (n m : ℕ) (xs : List ℕ) → Gave r a b n m xs → n ≤ m
-gave_later (Ok u) a b n m xs g = g.1
-gave_later (Err Sink) a b n m xs g = g.2
-gave_later (Err Short) a b n m xs g = g.1
+pub gave_later : (r : Result (Unit {0}) Unwritten) (a b : Output) (xs : List ℕ) → Gave r a b xs → a.faults ≤ b.faults
+gave_later (Ok u) a b xs g = g.1
+gave_later (Err NoRoom) a b xs g = g.2
+gave_later (Err Short) a b xs g = g.1
 
 on_ok : {P : Type 0} (r : Result (Unit {0}) Unwritten) → P → OnOk r P
 on_ok (Ok u) p = p
@@ -65,24 +66,24 @@ module _ (j : ℕ) (before batch : List Item) (closed : IsClosed before) (next :
   no_shorter : length before ≤ length longer
   no_shorter = omega (arith, length-append before batch)
 
-  pub published_short : (c d : Crumb) (old : Option (List ℕ)) (n : ℕ) → IsPublished j (Err Short) d before longer old old n n
-  published_short c d old n =
+  pub published_short : (c d : Crumb) (old : Output) → AreGiven j (Err Short) d before longer old old
+  published_short c d old =
       let one = one_more j before batch closed next in
       record {
         bytes = one.0;
         more = one.1;
-        gave = (([], one.0, refl, Appends-same old), omega arith);
+        gave = (([], one.0, refl, Appends-same old.held), omega arith);
         crumb_of = tt;
       }
 
-  pub published_none : (c : Crumb) (old : Option (List ℕ)) (n : ℕ) → CrumbOf c before → IsMadeFor (book false before) (book true longer) Unchanged → IsPublished j (Ok tt) c before longer old old n n
-  published_none c old n k made =
+  pub published_none : (c : Crumb) (old : Output) → CrumbOf c before → IsMadeFor (book false before) (book true longer) Unchanged → AreGiven j (Ok tt) c before longer old old
+  published_none c old k made =
       let same : book true longer ≡ book true before = made ∙ sym (book_same before closed) in
-      let P : List Entry → Type 0 = Stands c in
+      let P : List Entry → Type 0 = CrumbStands c in
       record {
         bytes = [];
         more = grown_same before longer j same;
-        gave = (Appends-same old, omega arith);
+        gave = (Appends-same old.held, omega arith);
         crumb_of = record { stands = subst P (sym same) k.stands; cut = omega (arith, k.cut, no_shorter) };
       }
 
@@ -93,10 +94,10 @@ module _ (j : ℕ) (before batch : List Item) (closed : IsClosed before) (next :
       let le : last_cut (next_entries cut w batch) ≤ cut = elim (same_world w v) as (λ b. last_cut (cond b [] (entry_of cut w v batch ∷ [])) ≤ cut) [ true ↦ omega arith | false ↦ omega arith ] in
       omega (arith, ap last_cut e, le)
 
-  pub published_next : (r : Result (Unit {0}) Unwritten) (last c : Crumb) (cut : ℕ) (old new : Option (List ℕ)) (n m : ℕ) → CrumbOf last before → cut ≡ length before + length batch
-      → IsMadeFor (book false before) (book true longer) (Next c) → entries_of (Next c) ≡ next_entries cut (world_of last) batch → Gave r old new n m (frames (crumb_messages j last.status c))
-      → IsPublished j r c before longer old new n m
-  published_next r last c cut old new n m k at made es g =
+  pub published_next : (r : Result (Unit {0}) Unwritten) (last c : Crumb) (cut : ℕ) (old new : Output) → CrumbOf last before → cut ≡ length before + length batch
+      → IsMadeFor (book false before) (book true longer) (Next c) → entries_of (Next c) ≡ next_entries cut (world_of last) batch → Gave r old new (frames (crumb_messages j last.status c))
+      → AreGiven j r c before longer old new
+  published_next r last c cut old new k at made es g =
       let w : World = folded before in
       let v : World = fold after w batch in
       let e : Entry = entry_of (length before + length batch) w v batch in
@@ -108,7 +109,7 @@ module _ (j : ℕ) (before batch : List Item) (closed : IsClosed before) (next :
       elim (same_world w v) as (λ b. book true longer ≡ book true before ++ cond b [] (e ∷ []) → streamed longer j ≡ streamed before j ++ frames (crumb_messages j last.status c)) [
         | true ↦ λ h. absurd (made.1 (h ∙ append-nil (book true before) ∙ short))
         | false ↦ λ h.
-            let P : List Entry → Type 0 = Stands c in
+            let P : List Entry → Type 0 = CrumbStands c in
             grown_by before longer j (book true before ++ e ∷ []) (crumb_messages j last.status c) h (crumb_told (book true before) e j last.status c status (subst P h made.0))
       ] grown in
       record {
@@ -120,25 +121,25 @@ module _ (j : ℕ) (before batch : List Item) (closed : IsClosed before) (next :
 
 -- Several
 
-pub published_at_once : (j : ℕ) (c : Crumb) (items : List Item) (old : Option (List ℕ)) (n : ℕ) → CrumbOf c items → IsPublished j (Ok tt) c items items old old n n
-published_at_once j c items old n k = record { bytes = []; more = sym (append-nil (streamed items j)); gave = (Appends-same old, omega arith); crumb_of = k }
+pub published_at_once : (j : ℕ) (c : Crumb) (items : List Item) (old : Output) → CrumbOf c items → AreGiven j (Ok tt) c items items old old
+published_at_once j c items old k = record { bytes = []; more = sym (append-nil (streamed items j)); gave = (Appends-same old.held, omega arith); crumb_of = k }
 
-pub published_then : (r : Result (Unit {0}) Unwritten) (j : ℕ) (c d : Crumb) (before mid all : List Item) (x y z : Option (List ℕ)) (n m k : ℕ)
-    → IsPublished j (Ok tt) c before mid x y n m → IsPublished j r d mid all y z m k → IsPublished j r d before all x z n k
-published_then r j c d before mid all x y z n m k a b = record {
+pub published_then : (r : Result (Unit {0}) Unwritten) (j : ℕ) (c d : Crumb) (before mid all : List Item) (x y z : Output)
+    → AreGiven j (Ok tt) c before mid x y → AreGiven j r d mid all y z → AreGiven j r d before all x z
+published_then r j c d before mid all x y z a b = record {
   bytes = a.bytes ++ b.bytes;
   more = b.more ∙ ap (λ l. l ++ b.bytes) a.more ∙ append_assoc (streamed before j) a.bytes b.bytes;
-  gave = gave_then r x y z n m k a.bytes b.bytes a.gave b.gave;
+  gave = gave_then r x y z a.bytes b.bytes a.gave b.gave;
   crumb_of = b.crumb_of;
 }
 
 -- behind a fault nothing of the rest is given
-pub published_part : (e : Unwritten) (j : ℕ) (c : Crumb) (before mid all : List Item) (x y : Option (List ℕ)) (n m : ℕ) (rest : List ℕ)
-    → IsPublished j (Err e) c before mid x y n m → streamed all j ≡ streamed mid j ++ rest → IsPublished j (Err e) c before all x y n m
-published_part e j c before mid all x y n m rest a h = record {
+pub published_part : (e : Unwritten) (j : ℕ) (c : Crumb) (before mid all : List Item) (x y : Output) (rest : List ℕ)
+    → AreGiven j (Err e) c before mid x y → streamed all j ≡ streamed mid j ++ rest → AreGiven j (Err e) c before all x y
+published_part e j c before mid all x y rest a h = record {
   bytes = a.bytes ++ rest;
   more = h ∙ ap (λ l. l ++ rest) a.more ∙ append_assoc (streamed before j) a.bytes rest;
-  gave = gave_more e x y n m a.bytes rest a.gave;
+  gave = gave_more e x y a.bytes rest a.gave;
   crumb_of = tt;
 }
 
@@ -166,11 +167,11 @@ few_entries c items k =
 
 -- what `next_crumb` says of the items of a batch
 pub made_here : (m n : Made) (last : Crumb) (before items batch : List Item) (cut : ℕ) → m ≡ n → items ≡ batch
-    → ((ended : Bool) (start : List Item) → IsClosed start → IsNextBatch ended start items → cut ≡ length start + length items → Stands last (book false start) → IsMadeFor (book false start) (book ended (start ++ items)) m)
+    → ((ended : Bool) (start : List Item) → IsClosed start → IsNextBatch ended start items → cut ≡ length start + length items → CrumbStands last (book false start) → IsMadeFor (book false start) (book ended (start ++ items)) m)
     → IsClosed before → IsNextBatch true before batch → cut ≡ length before + length batch → CrumbOf last before → IsMadeFor (book false before) (book true (before ++ batch)) n
 made_here m n last before items batch cut i e h closed next at k =
-    let P : List Item → Type 0 = λ xs. (ended : Bool) (start : List Item) → IsClosed start → IsNextBatch ended start xs → cut ≡ length start + length xs → Stands last (book false start) → IsMadeFor (book false start) (book ended (start ++ xs)) m in
-    let Q : List Entry → Type 0 = Stands last in
+    let P : List Item → Type 0 = λ xs. (ended : Bool) (start : List Item) → IsClosed start → IsNextBatch ended start xs → cut ≡ length start + length xs → CrumbStands last (book false start) → IsMadeFor (book false start) (book ended (start ++ xs)) m in
+    let Q : List Entry → Type 0 = CrumbStands last in
     let R : Made → Type 0 = IsMadeFor (book false before) (book true (before ++ batch)) in
     subst R i (subst P e h true before closed next at (subst Q (book_same before closed) k.stands))
 
@@ -179,7 +180,7 @@ pub opened : (j : ℕ) (s : Status) (c : Crumb) (a b d : List ℕ) → CrumbOf c
 unfolding book cuts closings cuts_after
 opened j s c a b d k e f g =
     let none : book true [] ≡ [] = refl in
-    let P : List Entry → Type 0 = Stands c in
+    let P : List Entry → Type 0 = CrumbStands c in
     g
     ∙ ap (λ x. x ++ frames (crumb_messages j s c)) (f ∙ ap (λ x. x ++ frame (ServerHello 1)) e)
     ∙ ap frames (sym (crumb_opens j s c (subst P none k.stands)))
@@ -210,82 +211,82 @@ module _ (c0 : Crumb) (closed : List Closed) (i : ℕ) (b : Closed) (h : i < len
       let rest : list_all batch_fits (b ∷ drop (i + 1) closed) ≡ true = right (list_all batch_fits (take i closed)) (list_all batch_fits (b ∷ drop (i + 1) closed)) (sym (list_all-append batch_fits (take i closed) (b ∷ drop (i + 1) closed)) ∙ all) in
       is_batch (joined front) b.items is_next.closed is_next.next (items_within b.items (left (batch_fits b) (list_all batch_fits (drop (i + 1) closed)) rest))
 
-  module _ (j : ℕ) (c : Crumb) (x y : Option (List ℕ)) (n m : ℕ) (p : IsPublished j (Ok tt) c (joined o.done) (joined front) x y n m) where
+  module _ (j : ℕ) (c : Crumb) (x y : Output) (p : AreGiven j (Ok tt) c (joined o.done) (joined front) x y) where
     pub cut_is : c.cut ≤ b.cut
     cut_is = omega (arith, p.crumb_of.cut, is_next.cut)
 
     pub few_are : c.number < 2 ^ 40
     few_are = omega (arith, few_entries c (joined front) p.crumb_of, is_next.within, o.few)
 
-    abbrev Steps : Result (Unit {0}) Unwritten → Crumb → Option (List ℕ) → ℕ → Type 0
-    Steps r d z k = (before : List Item) → IsClosed before → IsNextBatch true before b.items → b.cut ≡ length before + length b.items → CrumbOf c before → IsPublished j r d before (before ++ b.items) y z m k
+    abbrev Steps : Result (Unit {0}) Unwritten → Crumb → Output → Type 0
+    Steps r d z = (before : List Item) → IsClosed before → IsNextBatch true before b.items → b.cut ≡ length before + length b.items → CrumbOf c before → AreGiven j r d before (before ++ b.items) y z
 
-    step : (r : Result (Unit {0}) Unwritten) (d : Crumb) (z : Option (List ℕ)) (k : ℕ) → Steps r d z k → IsPublished j r d (joined o.done) (joined (o.done ++ take (i + 1) closed)) x z n k
-    step r d z k s =
-        let P : List Item → Type 0 = λ l. IsPublished j r d (joined o.done) l x z n k in
+    step : (r : Result (Unit {0}) Unwritten) (d : Crumb) (z : Output) → Steps r d z → AreGiven j r d (joined o.done) (joined (o.done ++ take (i + 1) closed)) x z
+    step r d z s =
+        let P : List Item → Type 0 = λ l. AreGiven j r d (joined o.done) l x z in
         subst P (sym (joined_more front b) ∙ ap joined (sym front_more))
-        (published_then r j c d (joined o.done) (joined front) (joined front ++ b.items) x y z n m k p (s (joined front) is_next.closed is_next.next is_next.cut p.crumb_of))
+        (published_then r j c d (joined o.done) (joined front) (joined front ++ b.items) x y z p (s (joined front) is_next.closed is_next.next is_next.cut p.crumb_of))
 
-    stops : (e : Unwritten) (d : Crumb) (z : Option (List ℕ)) (k : ℕ) → Steps (Err e) d z k → IsPublished j (Err e) d (joined o.done) (joined (o.done ++ closed)) x z n k
-    stops e d z k s =
+    stops : (e : Unwritten) (d : Crumb) (z : Output) → Steps (Err e) d z → AreGiven j (Err e) d (joined o.done) (joined (o.done ++ closed)) x z
+    stops e d z s =
         let whole_more : batches o.ended o.items ≡ (o.done ++ take (i + 1) closed) ++ drop (i + 1) closed =
         o.whole ∙ ap (λ l. o.done ++ l) (sym (take-append-drop (i + 1) closed)) ∙ sym (append_assoc o.done (take (i + 1) closed) (drop (i + 1) closed)) in
         let rest = all_more j o.ended o.items (drop (i + 1) closed) (o.done ++ take (i + 1) closed) whole_more in
-        published_part e j d (joined o.done) (joined (o.done ++ take (i + 1) closed)) (joined (o.done ++ closed)) x z n k rest.0 (step (Err e) d z k s)
+        published_part e j d (joined o.done) (joined (o.done ++ take (i + 1) closed)) (joined (o.done ++ closed)) x z rest.0 (step (Err e) d z s)
         (ap (λ (l : List Closed). streamed (joined l) j) (sym (append_assoc o.done (take (i + 1) closed) (drop (i + 1) closed) ∙ sym (ap (λ l. o.done ++ l) (sym (take-append-drop (i + 1) closed))))) ∙ rest.1)
 
 pub batch_owed : (c0 : Crumb) (closed : List Closed) (i : ℕ) (b : Closed) → i < length closed → b ≡ get_or closed i b → Owed c0 closed → IsBatch b.items
 batch_owed c0 closed i b h is o = batch_is c0 closed i b h is o
 
-pub cut_owed : (j : ℕ) (c0 c : Crumb) (closed : List Closed) (i : ℕ) (b : Closed) (x y : Option (List ℕ)) (n m : ℕ) → i < length closed → b ≡ get_or closed i b → (o : Owed c0 closed)
-    → IsPublished j (Ok tt) c (joined o.done) (joined (o.done ++ take i closed)) x y n m → c.cut ≤ b.cut
-cut_owed j c0 c closed i b x y n m h is o p = cut_is c0 closed i b h is o j c x y n m p
+pub cut_owed : (j : ℕ) (c0 c : Crumb) (closed : List Closed) (i : ℕ) (b : Closed) (x y : Output) → i < length closed → b ≡ get_or closed i b → (o : Owed c0 closed)
+    → AreGiven j (Ok tt) c (joined o.done) (joined (o.done ++ take i closed)) x y → c.cut ≤ b.cut
+cut_owed j c0 c closed i b x y h is o p = cut_is c0 closed i b h is o j c x y p
 
-pub few_owed : (j : ℕ) (c0 c : Crumb) (closed : List Closed) (i : ℕ) (b : Closed) (x y : Option (List ℕ)) (n m : ℕ) → i < length closed → b ≡ get_or closed i b → (o : Owed c0 closed)
-    → IsPublished j (Ok tt) c (joined o.done) (joined (o.done ++ take i closed)) x y n m → c.number < 2 ^ 40
-few_owed j c0 c closed i b x y n m h is o p = few_are c0 closed i b h is o j c x y n m p
+pub few_owed : (j : ℕ) (c0 c : Crumb) (closed : List Closed) (i : ℕ) (b : Closed) (x y : Output) → i < length closed → b ≡ get_or closed i b → (o : Owed c0 closed)
+    → AreGiven j (Ok tt) c (joined o.done) (joined (o.done ++ take i closed)) x y → c.number < 2 ^ 40
+few_owed j c0 c closed i b x y h is o p = few_are c0 closed i b h is o j c x y p
 
-pub published_begins : (j : ℕ) (c : Crumb) (closed : List Closed) (x : Option (List ℕ)) (n : ℕ) (o : Owed c closed) → IsPublished j (Ok tt) c (joined o.done) (joined (o.done ++ [])) x x n n
-published_begins j c closed x n o =
-    let P : List Closed → Type 0 = λ l. IsPublished j (Ok tt) c (joined o.done) (joined l) x x n n in
-    subst P (sym (append-nil o.done)) (published_at_once j c (joined o.done) x n o.crumb_of)
+pub published_begins : (j : ℕ) (c : Crumb) (closed : List Closed) (x : Output) (o : Owed c closed) → AreGiven j (Ok tt) c (joined o.done) (joined (o.done ++ [])) x x
+published_begins j c closed x o =
+    let P : List Closed → Type 0 = λ l. AreGiven j (Ok tt) c (joined o.done) (joined l) x x in
+    subst P (sym (append-nil o.done)) (published_at_once j c (joined o.done) x o.crumb_of)
 
-pub published_step : (j : ℕ) (c0 c d : Crumb) (closed : List Closed) (i : ℕ) (b : Closed) (x y z : Option (List ℕ)) (n m k : ℕ) → i < length closed → b ≡ get_or closed i b → (o : Owed c0 closed)
-    → IsPublished j (Ok tt) c (joined o.done) (joined (o.done ++ take i closed)) x y n m
-    → ((before : List Item) → IsClosed before → IsNextBatch true before b.items → b.cut ≡ length before + length b.items → CrumbOf c before → IsPublished j (Ok tt) d before (before ++ b.items) y z m k)
-    → IsPublished j (Ok tt) d (joined o.done) (joined (o.done ++ take (i + 1) closed)) x z n k
-published_step j c0 c d closed i b x y z n m k h is o p s = step c0 closed i b h is o j c x y n m p (Ok tt) d z k s
+pub published_step : (j : ℕ) (c0 c d : Crumb) (closed : List Closed) (i : ℕ) (b : Closed) (x y z : Output) → i < length closed → b ≡ get_or closed i b → (o : Owed c0 closed)
+    → AreGiven j (Ok tt) c (joined o.done) (joined (o.done ++ take i closed)) x y
+    → ((before : List Item) → IsClosed before → IsNextBatch true before b.items → b.cut ≡ length before + length b.items → CrumbOf c before → AreGiven j (Ok tt) d before (before ++ b.items) y z)
+    → AreGiven j (Ok tt) d (joined o.done) (joined (o.done ++ take (i + 1) closed)) x z
+published_step j c0 c d closed i b x y z h is o p s = step c0 closed i b h is o j c x y p (Ok tt) d z s
 
-pub published_stops : (e : Unwritten) (j : ℕ) (c0 c d : Crumb) (closed : List Closed) (i : ℕ) (b : Closed) (x y z : Option (List ℕ)) (n m k : ℕ) → i < length closed → b ≡ get_or closed i b → (o : Owed c0 closed)
-    → IsPublished j (Ok tt) c (joined o.done) (joined (o.done ++ take i closed)) x y n m
-    → ((before : List Item) → IsClosed before → IsNextBatch true before b.items → b.cut ≡ length before + length b.items → CrumbOf c before → IsPublished j (Err e) d before (before ++ b.items) y z m k)
-    → IsPublished j (Err e) d (joined o.done) (joined (o.done ++ closed)) x z n k
-published_stops e j c0 c d closed i b x y z n m k h is o p s = stops c0 closed i b h is o j c x y n m p e d z k s
+pub published_stops : (e : Unwritten) (j : ℕ) (c0 c d : Crumb) (closed : List Closed) (i : ℕ) (b : Closed) (x y z : Output) → i < length closed → b ≡ get_or closed i b → (o : Owed c0 closed)
+    → AreGiven j (Ok tt) c (joined o.done) (joined (o.done ++ take i closed)) x y
+    → ((before : List Item) → IsClosed before → IsNextBatch true before b.items → b.cut ≡ length before + length b.items → CrumbOf c before → AreGiven j (Err e) d before (before ++ b.items) y z)
+    → AreGiven j (Err e) d (joined o.done) (joined (o.done ++ closed)) x z
+published_stops e j c0 c d closed i b x y z h is o p s = stops c0 closed i b h is o j c x y p e d z s
 
 -- Batches, and then a fault
 
-pub published_later : (r : Result (Unit {0}) Unwritten) (j : ℕ) (d : Crumb) (before all : List Item) (x y : Option (List ℕ)) (n m : ℕ) → IsPublished j r d before all x y n m → n ≤ m
-published_later r j d before all x y n m p = gave_later r x y n m p.bytes p.gave
+pub published_later : (r : Result (Unit {0}) Unwritten) (j : ℕ) (d : Crumb) (before all : List Item) (x y : Output) → AreGiven j r d before all x y → x.faults ≤ y.faults
+published_later r j d before all x y p = gave_later r x y p.bytes p.gave
 
-pub published_fed : (result : Result (Unit {0}) Ending) (j : ℕ) (fault : Option IntakeFault) (d : Crumb) (before all : List Item) (x y : Option (List ℕ)) (n m : ℕ)
-    → result ≡ gone_on fault → IsPublished j (Ok tt) d before all x y n m → IsFedPublished j result fault d before all x y n m
-published_fed result j fault d before all x y n m e p =
-    let P : Result (Unit {0}) Ending → Type 0 = λ r. IsFedPublished j r fault d before all x y n m in
+pub published_fed : (result : Result (Unit {0}) Stop) (j : ℕ) (fault : Option IntakeFault) (d : Crumb) (before all : List Item) (x y : Output)
+    → result ≡ gone_on fault → AreGiven j (Ok tt) d before all x y → AreGivenAndTold j result fault d before all x y
+published_fed result j fault d before all x y e p =
+    let P : Result (Unit {0}) Stop → Type 0 = λ r. AreGivenAndTold j r fault d before all x y in
     subst P (sym e) (goes fault p)
   where
-    goes : (fault : Option IntakeFault) → IsPublished j (Ok tt) d before all x y n m → IsFedPublished j (gone_on fault) fault d before all x y n m
+    goes : (fault : Option IntakeFault) → AreGiven j (Ok tt) d before all x y → AreGivenAndTold j (gone_on fault) fault d before all x y
     goes None p = (p, refl)
     goes (Some f) p = (p, refl)
 
 -- the same list of batches
-pub published_as : (r : Result (Unit {0}) Unwritten) (j : ℕ) (c d : Crumb) (xs ys : List Closed) (x y : Option (List ℕ)) (n m : ℕ) → xs ≡ ys
-    → ((o : Owed c xs) → IsPublished j r d (joined o.done) (joined (o.done ++ xs)) x y n m) → (o : Owed c ys) → IsPublished j r d (joined o.done) (joined (o.done ++ ys)) x y n m
-published_as r j c d xs ys x y n m e h =
-    let P : List Closed → Type 0 = λ l. (o : Owed c l) → IsPublished j r d (joined o.done) (joined (o.done ++ l)) x y n m in
+pub published_as : (r : Result (Unit {0}) Unwritten) (j : ℕ) (c d : Crumb) (xs ys : List Closed) (x y : Output) → xs ≡ ys
+    → ((o : Owed c xs) → AreGiven j r d (joined o.done) (joined (o.done ++ xs)) x y) → (o : Owed c ys) → AreGiven j r d (joined o.done) (joined (o.done ++ ys)) x y
+published_as r j c d xs ys x y e h =
+    let P : List Closed → Type 0 = λ l. (o : Owed c l) → AreGiven j r d (joined o.done) (joined (o.done ++ l)) x y in
     subst P e h
 
-pub published_err : (e f : Unwritten) (j : ℕ) (c d : Crumb) (xs ys : List Closed) (x y : Option (List ℕ)) (n m : ℕ) → e ≡ f → xs ≡ ys
-    → ((o : Owed c xs) → IsPublished j (Err e) d (joined o.done) (joined (o.done ++ xs)) x y n m) → (o : Owed c ys) → IsPublished j (Err f) d (joined o.done) (joined (o.done ++ ys)) x y n m
-published_err e f j c d xs ys x y n m i s h o =
-    let P : Unwritten → Type 0 = λ u. IsPublished j (Err u) d (joined o.done) (joined (o.done ++ ys)) x y n m in
-    subst P i (published_as (Err e) j c d xs ys x y n m s h o)
+pub published_err : (e f : Unwritten) (j : ℕ) (c d : Crumb) (xs ys : List Closed) (x y : Output) → e ≡ f → xs ≡ ys
+    → ((o : Owed c xs) → AreGiven j (Err e) d (joined o.done) (joined (o.done ++ xs)) x y) → (o : Owed c ys) → AreGiven j (Err f) d (joined o.done) (joined (o.done ++ ys)) x y
+published_err e f j c d xs ys x y i s h o =
+    let P : Unwritten → Type 0 = λ u. AreGiven j (Err u) d (joined o.done) (joined (o.done ++ ys)) x y in
+    subst P i (published_as (Err e) j c d xs ys x y s h o)

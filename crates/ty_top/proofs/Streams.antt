@@ -1,5 +1,5 @@
 -- What `stream` writes is a talk over the book of its items, and the entries of a book leave the worlds.
-use Rattle.std.proofs.Common.{◌≡◌, ℕ, zero, suc, ◌+◌, ◌-◌, ◌^◌, ◌<◌, ◌≤◌, Bool, true, false, cond, ◌&&◌, ◌||◌, ◌==◌, ◌%◌, nat_le, List, [], ◌∷◌, ◌++◌, length, take, get_or, refl, sym, ap, subst, ◌∙◌, arith, inl, inr, eq-or-lt_of_le, eq-eqb, le-leb}
+use Rattle.std.proofs.Common.{◌≡◌, ℕ, zero, suc, ◌+◌, ◌-◌, ◌^◌, ◌<◌, ◌≤◌, Bool, true, false, cond, ◌&&◌, ◌||◌, ◌==◌, ◌%◌, nat_le, List, [], ◌∷◌, ◌++◌, length, take, map, get_or, refl, sym, ap, subst, ◌∙◌, arith, inl, inr, eq-or-lt_of_le, eq-eqb, leb-false, append-nil}
 use Rattle.std.specs.Prelude.{None, if◌then◌else◌}
 use Rattle.std.specs.List.{All, filter, range_with_len, suffix_len}
 use Rattle.std.proofs.lemmas.Bool.{leb-true}
@@ -14,12 +14,14 @@ use Rattle.ty_wire.specs.Wire.{frame, frames}
 use Rattle.ty_wire.specs.Talk.{talk, Rise}
 use Rattle.ty_wire.specs.declared.message.Msg.{Msg}
 use Rattle.ty_wire.specs.declared.message.Msg.TheVariants.{ServerHello}
-use Rattle.ty_wire.proofs.Talking.{talk-wire}
+use Rattle.ty_wire.proofs.Talk.{talk-wire}
 use Rattle.ty_client.specs.Rebuilt.{ats}
 use Rattle.ty_client.specs.Heard.{Hears}
-use Rattle.ty_client.specs.Worlds.{IsRising, AreSmall, IsWorldAt}
+use Rattle.ty_base.specs.Limits.{AreSmall}
+use Rattle.ty_base.specs.declared.limits.TheConstants.{INPUT_BYTES, BATCH_UPDATES}
+use Rattle.ty_client.specs.Worlds.{rebuilt_world}
 use Rattle.ty_client.proofs.Talks.{talk_rebuilds, hello_heard}
-use Rattle.ty_client.proofs.Books.{book_length, book_few, book_passes, front_at, whole_at}
+use Rattle.ty_client.proofs.Books.{book_length, book_few, book_passes, first_at, whole_at}
 use Rattle.ty_top.specs.Streamed.{streamed, worlds_from}
 
 all_rise : (k j most : ℕ) → j + k ≤ most → Rise j (range_with_len (j + 1) k) most
@@ -31,29 +33,42 @@ numbers_rise items j h = all_rise (last true items - j) j (length (book true ite
 
 -- ---- a front
 
-abbrev pub Rebuilds : List Item → List ℕ → Type 0
-Rebuilds items bytes = (ms : List Msg) × Hears bytes ms None × IsRising (ats ms) × All (λ a. IsWorldAt true items a) (ats ms)
+-- the worlds from a breadcrumb that is there
+worlds_are : (items : List Item) (j : ℕ) → j ≤ last true items → worlds_from items j ≡ map (rebuilt_world true items) (j ∷ range_with_len (j + 1) (last true items - j))
+worlds_are items j h =
+    let more : last true items + 1 - j ≡ suc (last true items - j) = omega (arith, h) in
+    ap (λ (n : ℕ). map (rebuilt_world true items) (range_with_len j n)) more
 
-from_talk : (items : List Item) (j : ℕ) (bytes more : List ℕ) → AreSmall items → length items < 2 ^ 64 → length bytes < 2 ^ 40 → j ≤ last true items
-    → bytes ++ more ≡ frames (talk (book true items) j (range_with_len (j + 1) (last true items - j))) → Rebuilds items bytes
+-- there are none from one that isn't
+no_worlds : (items : List Item) (j : ℕ) → last true items < j → worlds_from items j ≡ []
+no_worlds items j h =
+    let none : last true items + 1 - j ≡ 0 = omega (arith, h) in
+    ap (λ (n : ℕ). map (rebuilt_world true items) (range_with_len j n)) none
+
+abbrev pub Rebuilds : List Item → ℕ → List ℕ → Type 0
+Rebuilds items j bytes = (ms : List Msg) × (k : ℕ) × Hears bytes ms None × (ats ms ≡ take k (worlds_from items j))
+
+from_talk : (items : List Item) (j : ℕ) (bytes more : List ℕ) → AreSmall items → length items < 2 ^ 64 → length bytes < INPUT_BYTES → j ≤ last true items
+    → bytes ++ more ≡ frames (talk (book true items) j (range_with_len (j + 1) (last true items - j))) → Rebuilds items j bytes
 from_talk items j bytes more p l short h e =
     let es : List Entry = book true items in
     let ns : List ℕ = range_with_len (j + 1) (last true items - j) in
     let rise : Rise j ns (length es) = numbers_rise items j h in
-    front_at true items j ns bytes more (talk es j ns) rise (talk_rebuilds es j ns rise) (talk-wire es j ns (book_passes true items p) (book_few true items l) rise) short e
+    let r = first_at true items j ns bytes more (talk es j ns) rise (talk_rebuilds es j ns rise) (talk-wire es j ns (book_passes true items p) (book_few true items l) rise) short e in
+    (r.0, r.1, r.2, r.3 ∙ ap (take r.1) (sym (worlds_are items j h)))
 
-from_hello : (items : List Item) (bytes more : List ℕ) → length bytes < 2 ^ 40 → bytes ++ more ≡ frame (ServerHello 1) → Rebuilds items bytes
-from_hello items bytes more short e =
+from_hello : (items : List Item) (j : ℕ) (bytes more : List ℕ) → length bytes < INPUT_BYTES → bytes ++ more ≡ frame (ServerHello 1) → Rebuilds items j bytes
+from_hello items j bytes more short e =
     let r = hello_heard bytes more short e in
-    (r.0, r.1, subst IsRising (sym r.2) tt, subst (All (λ a. IsWorldAt true items a)) (sym r.2) (All-from_recursion (IsWorldAt true items) [] tt))
+    (r.0, 0, r.1, r.2)
 
-pub stream_rebuilds : (items : List Item) (j : ℕ) (bytes more : List ℕ) → AreSmall items → length items < 2 ^ 64 → length bytes < 2 ^ 40 → bytes ++ more ≡ streamed items j → Rebuilds items bytes
+pub stream_rebuilds : (items : List Item) (j : ℕ) (bytes more : List ℕ) → AreSmall items → length items < 2 ^ 64 → length bytes < INPUT_BYTES → bytes ++ more ≡ streamed items j → Rebuilds items j bytes
 unfolding streamed
 stream_rebuilds items j bytes more p l short e =
     let n : ℕ = last true items in
-    elim (nat_le j n) as (λ b. nat_le j n ≡ b → bytes ++ more ≡ (if b then frames (talk (book true items) j (range_with_len (j + 1) (n - j))) else frame (ServerHello 1)) → Rebuilds items bytes) [
+    elim (nat_le j n) as (λ b. nat_le j n ≡ b → bytes ++ more ≡ (if b then frames (talk (book true items) j (range_with_len (j + 1) (n - j))) else frame (ServerHello 1)) → Rebuilds items j bytes) [
       | true ↦ λ t f. from_talk items j bytes more p l short (leb-true j n t) f
-      | false ↦ λ t f. from_hello items bytes more short f
+      | false ↦ λ t f. from_hello items j bytes more short f
     ] refl e
 
 -- ---- the whole
@@ -62,20 +77,29 @@ abbrev pub RebuildsAll : List Item → ℕ → List ℕ → Type 0
 RebuildsAll items j bytes = (ms : List Msg) × Hears bytes ms None × (ats ms ≡ worlds_from items j)
 
 whole_talk : (items : List Item) (j : ℕ) → AreSmall items → length items < 2 ^ 64 → j ≤ last true items
-    → (bytes : List ℕ) → frames (talk (book true items) j (range_with_len (j + 1) (last true items - j))) ≡ bytes → length bytes < 2 ^ 40 → RebuildsAll items j bytes
+    → (bytes : List ℕ) → bytes ≡ frames (talk (book true items) j (range_with_len (j + 1) (last true items - j))) → length bytes < INPUT_BYTES → RebuildsAll items j bytes
 whole_talk items j p l h bytes e short =
     let es : List Entry = book true items in
     let ns : List ℕ = range_with_len (j + 1) (last true items - j) in
     let rise : Rise j ns (length es) = numbers_rise items j h in
-    let brief : length (frames (talk es j ns)) < 2 ^ 40 = subst (λ (x : List ℕ). length x < 2 ^ 40) (sym e) short in
+    let brief : length (frames (talk es j ns)) < INPUT_BYTES = subst (λ (x : List ℕ). length x < INPUT_BYTES) e short in
     let r = whole_at true items j ns (talk es j ns) rise (talk_rebuilds es j ns rise) (talk-wire es j ns (book_passes true items p) (book_few true items l) rise) brief in
-    (talk es j ns, subst (λ (x : List ℕ). Hears x (talk es j ns) None) e r.0, r.1)
+    (talk es j ns, subst (λ (x : List ℕ). Hears x (talk es j ns) None) (sym e) r.0, r.1 ∙ sym (worlds_are items j h))
 
-pub all_rebuilt : (items : List Item) (j : ℕ) → AreSmall items → length items < 2 ^ 64 → j ≤ last true items → length (streamed items j) < 2 ^ 40 → RebuildsAll items j (streamed items j)
+whole_hello : (items : List Item) (j : ℕ) → last true items < j → (bytes : List ℕ) → bytes ≡ frame (ServerHello 1) → length bytes < INPUT_BYTES → RebuildsAll items j bytes
+whole_hello items j h bytes e short =
+    let r = hello_heard bytes [] short (append-nil bytes ∙ e) in
+    (r.0, r.1, r.2 ∙ sym (no_worlds items j h))
+
+pub all_rebuilt : (items : List Item) (j : ℕ) → AreSmall items → length items < 2 ^ 64 → length (streamed items j) < INPUT_BYTES → RebuildsAll items j (streamed items j)
 unfolding streamed
-all_rebuilt items j p l h short =
-    let bytes : List ℕ = frames (talk (book true items) j (range_with_len (j + 1) (last true items - j))) in
-    whole_talk items j p l h (streamed items j) (ap (λ (b : Bool). if b then bytes else frame (ServerHello 1)) (sym (le-leb j (last true items) h))) short
+all_rebuilt items j p l short =
+    let n : ℕ = last true items in
+    let bytes : Bool → List ℕ = λ b. if b then frames (talk (book true items) j (range_with_len (j + 1) (n - j))) else frame (ServerHello 1) in
+    elim (nat_le j n) as (λ b. nat_le j n ≡ b → length (bytes b) < INPUT_BYTES → RebuildsAll items j (bytes b)) [
+      | true ↦ λ t s. whole_talk items j p l (leb-true j n t) (bytes true) refl s
+      | false ↦ λ t s. whole_hello items j (leb-false j n t) (bytes false) refl s
+    ] refl short
 
 -- ---- the last world
 
@@ -107,7 +131,7 @@ or_true false = refl
 
 end_closes : (items : List Item) → is_closing true items (length items) ≡ true
 end_closes items =
-    let run : Bool = suffix_len is_update (take (length items) items) % 100 == 0 in
+    let run : Bool = suffix_len is_update (take (length items) items) % BATCH_UPDATES == 0 in
     ap (λ (b : Bool). run || (true && b)) (eq-eqb (length items) (length items) refl) ∙ or_true run
 
 pub last_world : (items : List Item) → world true items (last true items) ≡ folded items

@@ -8,7 +8,7 @@ use Rattle.std.proofs.Math.Seq.{get_or-append_seam}
 use Rattle.ty_base.specs.declared.entry.Entry.{Entry}
 use Rattle.ty_base.specs.Feed.{World, replay, last_of}
 use Rattle.ty_base.proofs.Cuts.{range_split}
-use Rattle.ty_wire.specs.Talk.{talk, opening, first_group, groups_after, group_between, group, deltas_between, status_change, world_after}
+use Rattle.ty_wire.specs.Talk.{talk, opening, first_group, groups_after, group_between, group_messages, deltas_between, status_change, world_after}
 use Rattle.ty_wire.specs.declared.message.Msg.{Msg}
 use Rattle.ty_wire.specs.declared.message.Msg.TheVariants.{ServerHello}
 use Rattle.ty_base.specs.declared.delta.Kind.TheVariants.{New}
@@ -48,9 +48,9 @@ module _ (es : List Entry) (e : Entry) where
   between_kept from n h k =
       let within : n - from ≤ length (drop from es) = omega (arith, length-drop {A = Entry}) in
       let ds : deltas_between longer from n ≡ deltas_between es from n = ap (λ xs. flat_map (λ x. x.deltas) (take (n - from) xs)) (drop-append-le from es (e ∷ []) (omega arith)) ∙ ap (λ xs. flat_map (λ x. x.deltas) xs) (take-append-le (n - from) (drop from es) (e ∷ []) within) in
-      ap (λ xs. group xs (status_change (world_after longer from).status (world_after longer n).status) n) ds
-      ∙ ap (λ (w : World). group (deltas_between es from n) (status_change w.status (world_after longer n).status) n) (world_kept from (omega arith))
-      ∙ ap (λ (w : World). group (deltas_between es from n) (status_change (world_after es from).status w.status) n) (world_kept n k)
+      ap (λ xs. group_messages xs (status_change (world_after longer from).status (world_after longer n).status) n) ds
+      ∙ ap (λ (w : World). group_messages (deltas_between es from n) (status_change w.status (world_after longer n).status) n) (world_kept from (omega arith))
+      ∙ ap (λ (w : World). group_messages (deltas_between es from n) (status_change (world_after es from).status w.status) n) (world_kept n k)
 
   groups_kept : (k from : ℕ) → from + k ≤ length es → groups_after longer from (range_with_len (from + 1) k) ≡ groups_after es from (range_with_len (from + 1) k)
   unfolding groups_after
@@ -60,7 +60,7 @@ module _ (es : List Entry) (e : Entry) where
       ∙ ap (λ ms. group_between es from (from + 1) ++ ms) (groups_kept k (from + 1) (omega arith))
 
   first_kept : (n : ℕ) → n ≤ length es → first_group longer n ≡ first_group es n
-  first_kept n h = ap (λ (w : World). group (map (λ p. record { key = p.0; kind = New; value = Some p.1; told = refl }) w.pairs) (Some w.status) n) (world_kept n h)
+  first_kept n h = ap (λ (w : World). group_messages (map (λ p. record { key = p.0; kind = New; value = Some p.1; told = refl }) w.pairs) (Some w.status) n) (world_kept n h)
 
   length_longer : length longer ≡ length es + 1
   length_longer = length-append es (e ∷ [])
@@ -75,14 +75,14 @@ module _ (es : List Entry) (e : Entry) where
   world_there = ap replay (take_all (length es + 1) longer (omega (arith, length_longer)))
 
   -- from the last entry before to this one
-  last_between : group_between longer (length es) (length es + 1) ≡ group e.deltas (status_change (replay es).status (replay longer).status) (length es + 1)
+  last_between : group_between longer (length es) (length es + 1) ≡ group_messages e.deltas (status_change (replay es).status (replay longer).status) (length es + 1)
   last_between =
-      ap (λ ds. group ds (status_change (world_after longer (length es)).status (world_after longer (length es + 1)).status) (length es + 1)) (one_between longer (length es) e (omega (arith, length_longer)) entry_here)
-      ∙ ap (λ (w : World). group e.deltas (status_change w.status (world_after longer (length es + 1)).status) (length es + 1)) world_here
-      ∙ ap (λ (w : World). group e.deltas (status_change (replay es).status w.status) (length es + 1)) world_there
+      ap (λ ds. group_messages ds (status_change (world_after longer (length es)).status (world_after longer (length es + 1)).status) (length es + 1)) (one_between longer (length es) e (omega (arith, length_longer)) entry_here)
+      ∙ ap (λ (w : World). group_messages e.deltas (status_change w.status (world_after longer (length es + 1)).status) (length es + 1)) world_here
+      ∙ ap (λ (w : World). group_messages e.deltas (status_change (replay es).status w.status) (length es + 1)) world_there
 
   -- where breadcrumb j was told already, its deltas follow
-  pub told_after : (j : ℕ) → j ≤ length es → told longer j ≡ told es j ++ group e.deltas (status_change (replay es).status (replay longer).status) (length es + 1)
+  pub told_after : (j : ℕ) → j ≤ length es → told longer j ≡ told es j ++ group_messages e.deltas (status_change (replay es).status (replay longer).status) (length es + 1)
   told_after j h =
       let k : ℕ = length es - j in
       let ns : List ℕ = range_with_len (j + 1) k in
@@ -96,11 +96,11 @@ module _ (es : List Entry) (e : Entry) where
       ∙ ap (λ ms. opening es j ++ (ms ++ group_between longer (last_of j ns) (length es + 1))) (groups_kept k j (omega arith))
       ∙ ap (λ n. opening es j ++ (groups_after es j ns ++ group_between longer n (length es + 1))) at_end
       ∙ ap (λ ms. opening es j ++ (groups_after es j ns ++ ms)) last_between
-      ∙ sym (append_assoc (opening es j) (groups_after es j ns) (group e.deltas (status_change (replay es).status (replay longer).status) (length es + 1)))
-      ∙ ap (λ b. cond b (talk es j ns) (ServerHello 1 ∷ []) ++ group e.deltas (status_change (replay es).status (replay longer).status) (length es + 1)) (sym (le-leb j (length es) h))
+      ∙ sym (append_assoc (opening es j) (groups_after es j ns) (group_messages e.deltas (status_change (replay es).status (replay longer).status) (length es + 1)))
+      ∙ ap (λ b. cond b (talk es j ns) (ServerHello 1 ∷ []) ++ group_messages e.deltas (status_change (replay es).status (replay longer).status) (length es + 1)) (sym (le-leb j (length es) h))
 
   -- where this is breadcrumb j, its snapshot is told
-  pub told_first : (j : ℕ) → j ≡ length es + 1 → told longer j ≡ told es j ++ group (map (λ p. record { key = p.0; kind = New; value = Some p.1; told = refl }) (replay longer).pairs) (Some (replay longer).status) (length es + 1)
+  pub told_first : (j : ℕ) → j ≡ length es + 1 → told longer j ≡ told es j ++ group_messages (map (λ p. record { key = p.0; kind = New; value = Some p.1; told = refl }) (replay longer).pairs) (Some (replay longer).status) (length es + 1)
   unfolding groups_after
   told_first j h =
       let none : length longer - (length es + 1) ≡ 0 = omega (arith, length_longer) in
@@ -108,8 +108,8 @@ module _ (es : List Entry) (e : Entry) where
       ∙ ap (λ b. cond b (talk longer (length es + 1) (range_with_len (length es + 1 + 1) (length longer - (length es + 1)))) (ServerHello 1 ∷ [])) (le-leb (length es + 1) (length longer) (omega (arith, length_longer)))
       ∙ ap (λ n. talk longer (length es + 1) (range_with_len (length es + 1 + 1) n)) none
       ∙ append-nil (opening longer (length es + 1))
-      ∙ ap (λ (w : World). ServerHello 1 ∷ group (map (λ p. record { key = p.0; kind = New; value = Some p.1; told = refl }) w.pairs) (Some w.status) (length es + 1)) world_there
-      ∙ ap (λ ms. ms ++ group (map (λ p. record { key = p.0; kind = New; value = Some p.1; told = refl }) (replay longer).pairs) (Some (replay longer).status) (length es + 1)) (sym (none_yet es j (omega (arith, h))))
+      ∙ ap (λ (w : World). ServerHello 1 ∷ group_messages (map (λ p. record { key = p.0; kind = New; value = Some p.1; told = refl }) w.pairs) (Some w.status) (length es + 1)) world_there
+      ∙ ap (λ ms. ms ++ group_messages (map (λ p. record { key = p.0; kind = New; value = Some p.1; told = refl }) (replay longer).pairs) (Some (replay longer).status) (length es + 1)) (sym (none_yet es j (omega (arith, h))))
 
   -- where breadcrumb j comes later, nothing is
   pub told_before : (j : ℕ) → length es + 1 < j → told longer j ≡ told es j

@@ -1,5 +1,5 @@
 -- What `stream` writes, and the worlds that it tells.
-use Rattle.std.specs.Prelude.{ℕ, ◌+◌, ◌-◌, List, ◌∷◌, map, nat_le, true, if◌then◌else◌}
+use Rattle.std.specs.Prelude.{ℕ, ◌+◌, ◌-◌, List, map, nat_le, true, if◌then◌else◌}
 use Rattle.std.specs.List.{range_with_len}
 use Rattle.ty_base.specs.declared.item.Item.{Item}
 use Rattle.ty_base.specs.Feed.{book, last}
@@ -18,4 +18,4 @@ streamed items j =
 
 -- the worlds of these items from breadcrumb j to the last, each once and in order
 abbrev pub worlds_from : List Item → ℕ → List Rebuilt
-worlds_from items j = map (rebuilt_world true items) (j ∷ range_with_len (j + 1) (last true items - j))
+worlds_from items j = map (rebuilt_world true items) (range_with_len j (last true items + 1 - j))

@@ -1,14 +1,15 @@
 -- The command line's words.
-use Rattle.std.specs.Prelude.{ℕ, ◌^◌, nat_le, true, false, List, [], ◌∷◌, codes, Option, None, Some, if◌then◌else◌}
+use Rattle.std.specs.Prelude.{ℕ, nat_le, true, false, List, [], ◌∷◌, codes, Option, None, Some, if◌then◌else◌}
 use Rattle.std.specs.Str.{bytes_eq}
 use Rattle.ty_base.specs.Numbers.{read_number}
+use Rattle.ty_base.specs.declared.limits.TheConstants.{INPUT_BYTES}
 use Rattle.ty_top.specs.declared.words.Command.{Command}
 use Rattle.ty_top.specs.declared.words.Command.TheVariants.{Stream, Follow}
 
--- a breadcrumb's number is at most 2^40
+-- a breadcrumb's number is at most `INPUT_BYTES`
 abbrev pub stream_from : Option ℕ → Option Command
 stream_from None = None
-stream_from (Some n) = if nat_le n (2 ^ 40) then Some (Stream n) else None
+stream_from (Some n) = if nat_le n INPUT_BYTES then Some (Stream n) else None
 
 -- `stream` takes `--from` and a number, once
 abbrev pub stream_with : List (List ℕ) → Option Command

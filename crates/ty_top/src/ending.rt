@@ -1,7 +1,6 @@
 // How a run ends.
 ghost use Rattle.std.specs.Prelude.{◌≡◌, ◌⊎◌};
-ghost use Rattle.ty_client.specs.declared.fault.StreamFault.{StreamFault as Fault};
-ghost use Rattle.ty_top.specs.Endings.{status_of, fault_status as fault_status_of, feed_status as feed_status_of};
+ghost use Rattle.ty_top.specs.Endings.{exit_status, stream_status, follow_status, fault_status as fault_status_of, feed_status as feed_status_of};
 
 use ty_client::StreamFault;
 use ty_intake::IntakeFault;
@@ -14,49 +13,91 @@ pub enum Local {
     Done(u8),
 }
 
-/// How a run ends.
+/// How a run ends, by what the words ask for.
 #[derive(Clone, Copy, Debug, PartialEq, Eq)]
 pub(crate) enum Ending {
-    /// All was read and written.
-    Done,
     /// The words are refused.
     Usage,
+    Stream(StreamEnd),
+    Follow(FollowEnd),
+}
+
+/// How a run of `stream` ends.
+#[derive(Clone, Copy, Debug, PartialEq, Eq)]
+pub(crate) enum StreamEnd {
+    /// All was read and written.
+    Done,
     /// The feed has this fault.
-    Feed(IntakeFault),
+    Fault(IntakeFault),
     /// The source failed.
     Read,
     /// The sink failed.
     Write,
     /// Memory ran out.
     Memory,
+}
+
+/// How a run of `follow` ends.
+#[derive(Clone, Copy, Debug, PartialEq, Eq)]
+pub(crate) enum FollowEnd {
+    /// All was read and written.
+    Done,
     /// The connection's bytes have this fault.
     Fault(StreamFault),
     /// The connection's end came inside a frame, of which there are so many bytes.
     Cut(u64),
+    /// The source failed.
+    Read,
+    /// The sink failed.
+    Write,
+    /// Memory ran out.
+    Memory,
 }
 
 impl Ending {
     /// The exit status of a run that ends so.
     pub fn status(self) -> u8
-        ensures exact { result ≡ status_of self }
-        ensures of_fault { (fault : Fault) → self ≡ Ending.Fault fault → (result ≡ 6) ⊎ (result ≡ 8) }
+        ensures { result ≡ exit_status self }
     {
         match self {
-            Ending::Done => 0,
             Ending::Usage => 1,
-            Ending::Feed(fault) => feed_status(fault),
-            Ending::Read => 3,
-            Ending::Write => 4,
-            Ending::Memory => 5,
-            Ending::Fault(fault) => fault_status(fault),
-            Ending::Cut(_) => 9,
+            Ending::Stream(end) => end.status(),
+            Ending::Follow(end) => end.status(),
+        }
+    }
+}
+
+impl StreamEnd {
+    fn status(self) -> u8
+        ensures { result ≡ stream_status self }
+    {
+        match self {
+            StreamEnd::Done => 0,
+            StreamEnd::Fault(fault) => feed_status(fault),
+            StreamEnd::Read => 3,
+            StreamEnd::Write => 4,
+            StreamEnd::Memory => 5,
+        }
+    }
+}
+
+impl FollowEnd {
+    fn status(self) -> u8
+        ensures { result ≡ follow_status self }
+    {
+        match self {
+            FollowEnd::Done => 0,
+            FollowEnd::Fault(fault) => fault_status(fault),
+            FollowEnd::Cut(_) => 9,
+            FollowEnd::Read => 3,
+            FollowEnd::Write => 4,
+            FollowEnd::Memory => 5,
         }
     }
 }
 
 fn fault_status(fault: StreamFault) -> u8
-    ensures exact { result ≡ fault_status_of fault }
-    ensures known { (result ≡ 6) ⊎ (result ≡ 8) }
+    ensures { result ≡ fault_status_of fault }
 {
     match fault {
         StreamFault::Wire(WireFault::TooMuch) => 8,

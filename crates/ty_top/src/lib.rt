@@ -2,18 +2,18 @@
 #![tactic(auto)]
 
 mod ending;
-mod following;
+mod follow;
 mod laws;
 mod notes;
 mod plain;
-mod publishing;
-mod streaming;
+mod publisher;
+mod stream;
 mod top;
 mod words;
 
 pub use ending::Local;
 pub use laws::{
-    both_ends_agree, followed_streams_tell_every_world, streams_rebuild_the_worlds,
+    both_ends_agree, followed_streams_tell_every_world, statuses_tell, streams_rebuild_the_worlds,
     whole_streams_rebuild_every_world,
 };
 pub use plain::plain_stream;

@@ -4,9 +4,9 @@ ghost use Rattle.std.specs.Io.KnownBytes.{Appends};
 ghost use Rattle.ty_base.specs.Causes.{HasCause};
 ghost use Rattle.ty_base.specs.Fronts.{AppendsFront};
 ghost use Rattle.ty_client.specs.declared.fault.StreamFault.TheVariants.{Wire};
-ghost use Rattle.ty_top.specs.Notes.{note_of, fault_note, feed_note, numbered, numbered_twice, rising_note, IsTold};
+ghost use Rattle.ty_top.specs.Notes.{note_of, stream_note, follow_note, fault_note, feed_note, with_number, with_two_numbers, rising_note, IsNoted};
 
-use crate::ending::Ending;
+use crate::ending::{Ending, FollowEnd, StreamEnd};
 use itoa::Buffer;
 use ty_base::{Failed, Sink, give_all};
 use ty_client::StreamFault;
@@ -15,7 +15,7 @@ use ty_wire::WireFault;
 
 // Tells of the ending. A fault of the notes changes nothing else.
 pub(crate) fn tell<E: Sink>(notes: &mut E, ending: Ending)
-    ensures { IsTold (E.held notes.old) (E.held notes.new) (E.count notes.old) (E.count notes.new) (note_of ending) }
+    ensures { IsNoted (E.seen notes.old) (E.seen notes.new) (note_of ending) }
 {
     let _ = try_tell(notes, ending);
 }
@@ -23,42 +23,72 @@ pub(crate) fn tell<E: Sink>(notes: &mut E, ending: Ending)
 const USAGE: &[u8] =
     b"usage: typha stream|follow|sim|load|serve [--from N] [--brief] [--at ADDR] [--host NAME] [--tries N] [--number N] [--workers N]\n";
 
+const READ: &[u8] = b"typha: read fault\n";
+
+const WRITE: &[u8] = b"typha: write fault\n";
+
+const MEMORY: &[u8] = b"typha: out of memory\n";
+
 fn try_tell<E: Sink>(notes: &mut E, ending: Ending) -> Result<(), Failed>
-    ensures ok { OnOk result (Appends (E.held notes.old) (E.held notes.new) (note_of ending)) }
-    ensures err { OnErr result (AppendsFront (E.held notes.old) (E.held notes.new) (note_of ending)) }
-    ensures cause { HasCause (E.count notes.old) (E.count notes.new) result }
+    ensures ok { OnOk result (Appends (E.seen notes.old).held (E.seen notes.new).held (note_of ending)) }
+    ensures err { OnErr result (AppendsFront (E.seen notes.old).held (E.seen notes.new).held (note_of ending)) }
+    ensures cause { HasCause (E.seen notes.old).faults (E.seen notes.new).faults result }
 {
     match ending {
-        Ending::Done => give_all(notes, b""),
         Ending::Usage => give_all(notes, USAGE),
-        Ending::Feed(fault) => tell_feed(notes, fault),
-        Ending::Read => give_all(notes, b"typha: read fault\n"),
-        Ending::Write => give_all(notes, b"typha: write fault\n"),
-        Ending::Memory => give_all(notes, b"typha: out of memory\n"),
-        Ending::Fault(fault) => tell_fault(notes, fault),
-        Ending::Cut(left) => give_numbered(notes, b"typha: stream cut ", left, b"\n"),
+        Ending::Stream(end) => tell_stream(notes, end),
+        Ending::Follow(end) => tell_follow(notes, end),
+    }
+}
+
+fn tell_stream<E: Sink>(notes: &mut E, end: StreamEnd) -> Result<(), Failed>
+    ensures ok { OnOk result (Appends (E.seen notes.old).held (E.seen notes.new).held (stream_note end)) }
+    ensures err { OnErr result (AppendsFront (E.seen notes.old).held (E.seen notes.new).held (stream_note end)) }
+    ensures cause { HasCause (E.seen notes.old).faults (E.seen notes.new).faults result }
+{
+    match end {
+        StreamEnd::Done => give_all(notes, b""),
+        StreamEnd::Fault(fault) => tell_feed(notes, fault),
+        StreamEnd::Read => give_all(notes, READ),
+        StreamEnd::Write => give_all(notes, WRITE),
+        StreamEnd::Memory => give_all(notes, MEMORY),
+    }
+}
+
+fn tell_follow<E: Sink>(notes: &mut E, end: FollowEnd) -> Result<(), Failed>
+    ensures ok { OnOk result (Appends (E.seen notes.old).held (E.seen notes.new).held (follow_note end)) }
+    ensures err { OnErr result (AppendsFront (E.seen notes.old).held (E.seen notes.new).held (follow_note end)) }
+    ensures cause { HasCause (E.seen notes.old).faults (E.seen notes.new).faults result }
+{
+    match end {
+        FollowEnd::Done => give_all(notes, b""),
+        FollowEnd::Fault(fault) => tell_fault(notes, fault),
+        FollowEnd::Cut(left) => give_with_number(notes, b"typha: stream cut ", left, b"\n"),
+        FollowEnd::Read => give_all(notes, READ),
+        FollowEnd::Write => give_all(notes, WRITE),
+        FollowEnd::Memory => give_all(notes, MEMORY),
     }
 }
 
 fn tell_feed<E: Sink>(notes: &mut E, fault: IntakeFault) -> Result<(), Failed>
-    ensures ok { OnOk result (Appends (E.held notes.old) (E.held notes.new) (feed_note fault)) }
-    ensures err { OnErr result (AppendsFront (E.held notes.old) (E.held notes.new) (feed_note fault)) }
-    ensures cause { HasCause (E.count notes.old) (E.count notes.new) result }
+    ensures ok { OnOk result (Appends (E.seen notes.old).held (E.seen notes.new).held (feed_note fault)) }
+    ensures err { OnErr result (AppendsFront (E.seen notes.old).held (E.seen notes.new).held (feed_note fault)) }
+    ensures cause { HasCause (E.seen notes.old).faults (E.seen notes.new).faults result }
 {
     match fault {
-        IntakeFault::LongLine { line } => give_numbered(
+        IntakeFault::LongLine { line } => give_with_number(
             notes,
             b"typha: line ",
             line,
             b": too long\n",
         ),
-        IntakeFault::BadUtf8 { line } => give_numbered(
+        IntakeFault::BadUtf8 { line } => give_with_number(
             notes,
             b"typha: line ",
             line,
             b": not UTF-8\n",
         ),
-        IntakeFault::BadLine { line } => give_numbered(
+        IntakeFault::BadLine { line } => give_with_number(
             notes,
             b"typha: line ",
             line,
@@ -69,19 +99,19 @@ fn tell_feed<E: Sink>(notes: &mut E, fault: IntakeFault) -> Result<(), Failed>
 }
 
 fn tell_fault<E: Sink>(notes: &mut E, fault: StreamFault) -> Result<(), Failed>
-    ensures ok { OnOk result (Appends (E.held notes.old) (E.held notes.new) (fault_note fault)) }
-    ensures err { OnErr result (AppendsFront (E.held notes.old) (E.held notes.new) (fault_note fault)) }
-    ensures cause { HasCause (E.count notes.old) (E.count notes.new) result }
+    ensures ok { OnOk result (Appends (E.seen notes.old).held (E.seen notes.new).held (fault_note fault)) }
+    ensures err { OnErr result (AppendsFront (E.seen notes.old).held (E.seen notes.new).held (fault_note fault)) }
+    ensures cause { HasCause (E.seen notes.old).faults (E.seen notes.new).faults result }
 {
     match fault {
         StreamFault::Wire(fault) => tell_wire(notes, fault),
-        StreamFault::Version { found } => give_numbered(
+        StreamFault::Version { found } => give_with_number(
             notes,
             b"typha: frame 1: version ",
             found,
             b"\n",
         ),
-        StreamFault::Order { frame } => give_numbered(
+        StreamFault::Order { frame } => give_with_number(
             notes,
             b"typha: frame ",
             frame,
@@ -92,12 +122,12 @@ fn tell_fault<E: Sink>(notes: &mut E, fault: StreamFault) -> Result<(), Failed>
 }
 
 fn tell_wire<E: Sink>(notes: &mut E, fault: WireFault) -> Result<(), Failed>
-    ensures ok { OnOk result (Appends (E.held notes.old) (E.held notes.new) (fault_note (Wire fault))) }
-    ensures err { OnErr result (AppendsFront (E.held notes.old) (E.held notes.new) (fault_note (Wire fault))) }
-    ensures cause { HasCause (E.count notes.old) (E.count notes.new) result }
+    ensures ok { OnOk result (Appends (E.seen notes.old).held (E.seen notes.new).held (fault_note (Wire fault))) }
+    ensures err { OnErr result (AppendsFront (E.seen notes.old).held (E.seen notes.new).held (fault_note (Wire fault))) }
+    ensures cause { HasCause (E.seen notes.old).faults (E.seen notes.new).faults result }
 {
     match fault {
-        WireFault::TooLong { frame, len } => give_numbered_twice(
+        WireFault::TooLong { frame, len } => give_with_two_numbers(
             notes,
             b"typha: frame ",
             frame,
@@ -105,13 +135,13 @@ fn tell_wire<E: Sink>(notes: &mut E, fault: WireFault) -> Result<(), Failed>
             len,
             b"\n",
         ),
-        WireFault::NotJson { frame } => give_numbered(
+        WireFault::NotJson { frame } => give_with_number(
             notes,
             b"typha: frame ",
             frame,
             b": not JSON\n",
         ),
-        WireFault::Shape { frame } => give_numbered(
+        WireFault::Shape { frame } => give_with_number(
             notes,
             b"typha: frame ",
             frame,
@@ -122,9 +152,9 @@ fn tell_wire<E: Sink>(notes: &mut E, fault: WireFault) -> Result<(), Failed>
 }
 
 fn tell_not_rising<E: Sink>(notes: &mut E, frame: u64, had: u64, found: u64) -> Result<(), Failed>
-    ensures ok { OnOk result (Appends (E.held notes.old) (E.held notes.new) (rising_note frame had found)) }
-    ensures err { OnErr result (AppendsFront (E.held notes.old) (E.held notes.new) (rising_note frame had found)) }
-    ensures cause { HasCause (E.count notes.old) (E.count notes.new) result }
+    ensures ok { OnOk result (Appends (E.seen notes.old).held (E.seen notes.new).held (rising_note frame had found)) }
+    ensures err { OnErr result (AppendsFront (E.seen notes.old).held (E.seen notes.new).held (rising_note frame had found)) }
+    ensures cause { HasCause (E.seen notes.old).faults (E.seen notes.new).faults result }
 {
     let Ok(()) = give_all(notes, b"typha: frame ") else {
         return Err(Failed);
@@ -132,14 +162,14 @@ fn tell_not_rising<E: Sink>(notes: &mut E, frame: u64, had: u64, found: u64) -> 
     let Ok(()) = give_number(notes, frame) else {
         return Err(Failed);
     };
-    let Ok(()) = give_numbered_twice(notes, b": crumb ", found, b" after ", had, b"\n") else {
+    let Ok(()) = give_with_two_numbers(notes, b": crumb ", found, b" after ", had, b"\n") else {
         return Err(Failed);
     };
     Ok(())
 }
 
 // Gives a text that has two numbers in it.
-fn give_numbered_twice<E: Sink>(
+fn give_with_two_numbers<E: Sink>(
     notes: &mut E,
     before: &[u8],
     number: u64,
@@ -147,9 +177,9 @@ fn give_numbered_twice<E: Sink>(
     other: u64,
     after: &[u8],
 ) -> Result<(), Failed>
-    ensures ok { OnOk result (Appends (E.held notes.old) (E.held notes.new) (numbered_twice before.now number between.now other after.now)) }
-    ensures err { OnErr result (AppendsFront (E.held notes.old) (E.held notes.new) (numbered_twice before.now number between.now other after.now)) }
-    ensures cause { HasCause (E.count notes.old) (E.count notes.new) result }
+    ensures ok { OnOk result (Appends (E.seen notes.old).held (E.seen notes.new).held (with_two_numbers before.now number between.now other after.now)) }
+    ensures err { OnErr result (AppendsFront (E.seen notes.old).held (E.seen notes.new).held (with_two_numbers before.now number between.now other after.now)) }
+    ensures cause { HasCause (E.seen notes.old).faults (E.seen notes.new).faults result }
 {
     let Ok(()) = give_all(notes, before) else {
         return Err(Failed);
@@ -157,22 +187,22 @@ fn give_numbered_twice<E: Sink>(
     let Ok(()) = give_number(notes, number) else {
         return Err(Failed);
     };
-    let Ok(()) = give_numbered(notes, between, other, after) else {
+    let Ok(()) = give_with_number(notes, between, other, after) else {
         return Err(Failed);
     };
     Ok(())
 }
 
 // Gives a text that has a number in it.
-fn give_numbered<E: Sink>(
+fn give_with_number<E: Sink>(
     notes: &mut E,
     before: &[u8],
     number: u64,
     after: &[u8],
 ) -> Result<(), Failed>
-    ensures ok { OnOk result (Appends (E.held notes.old) (E.held notes.new) (numbered before.now number after.now)) }
-    ensures err { OnErr result (AppendsFront (E.held notes.old) (E.held notes.new) (numbered before.now number after.now)) }
-    ensures cause { HasCause (E.count notes.old) (E.count notes.new) result }
+    ensures ok { OnOk result (Appends (E.seen notes.old).held (E.seen notes.new).held (with_number before.now number after.now)) }
+    ensures err { OnErr result (AppendsFront (E.seen notes.old).held (E.seen notes.new).held (with_number before.now number after.now)) }
+    ensures cause { HasCause (E.seen notes.old).faults (E.seen notes.new).faults result }
 {
     let Ok(()) = give_all(notes, before) else {
         return Err(Failed);
@@ -187,9 +217,9 @@ fn give_numbered<E: Sink>(
 }
 
 fn give_number<E: Sink>(notes: &mut E, number: u64) -> Result<(), Failed>
-    ensures ok { OnOk result (Appends (E.held notes.old) (E.held notes.new) (decimal number)) }
-    ensures err { OnErr result (AppendsFront (E.held notes.old) (E.held notes.new) (decimal number)) }
-    ensures cause { HasCause (E.count notes.old) (E.count notes.new) result }
+    ensures ok { OnOk result (Appends (E.seen notes.old).held (E.seen notes.new).held (decimal number)) }
+    ensures err { OnErr result (AppendsFront (E.seen notes.old).held (E.seen notes.new).held (decimal number)) }
+    ensures cause { HasCause (E.seen notes.old).faults (E.seen notes.new).faults result }
 {
     let mut buffer = Buffer::new();
     give_all(notes, buffer.format(number).as_bytes())

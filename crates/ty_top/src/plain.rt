@@ -1,13 +1,13 @@
 // The talk over the book of a list of items, by the plain programs.
 ghost use Rattle.std.specs.Prelude.{◌≡◌, ◌++◌, [], true, length, IfOk, OnOk};
 ghost use Rattle.std.specs.List.{All, range_with_len};
-ghost use Rattle.ty_crumb.specs.Limits.{items_fit};
-ghost use Rattle.ty_wire.specs.Limits.{IsWithinLimits};
+ghost use Rattle.ty_base.specs.Limits.{items_fit};
+ghost use Rattle.ty_base.specs.Limits.{deltas_fit};
 ghost use Rattle.ty_wire.specs.Wire.{frames};
 ghost use Rattle.ty_wire.specs.Talk.{groups_after, opening as opening_of};
 ghost use Rattle.ty_top.specs.Streamed.{streamed};
 
-use crate::publishing::change;
+use crate::publisher::change;
 use std::alloc::Global;
 use ty_base::{Deltas, Entry, Item, NoMemory, Status};
 use ty_plain::book;
@@ -37,7 +37,7 @@ fn opening(alloc: Global) -> Result<Vec<u8>, NoMemory>
 
 // A group for each entry, from the first on.
 fn write_entries(alloc: Global, book: &[Entry], out: &mut Vec<u8>) -> Result<(), NoMemory>
-    requires { All (λ e. IsWithinLimits e.deltas) book.now }
+    requires { All (λ e. deltas_fit e.deltas ≡ true) book.now }
     ensures { OnOk result (out.new.items ≡ out.old.items ++ frames (groups_after book.now 0 (range_with_len 1 (length book.now)))) }
 {
     let mut status = Status::Wait;

@@ -3,7 +3,7 @@ ghost use Rattle.std.specs.Prelude.{◌≡◌};
 ghost use Rattle.std.specs.Str.{bytes_eq};
 ghost use Rattle.ty_top.specs.Words.{command_of, mode_with, stream_with as stream_of, stream_from as stream_from_of, follow_with as follow_of};
 
-use ty_base::{Text, read_u64};
+use ty_base::{INPUT_BYTES, Text, read_u64};
 
 /// What the words ask for.
 #[derive(Clone, Copy, Debug, PartialEq, Eq)]
@@ -51,12 +51,12 @@ fn stream_with(options: &[Text]) -> Option<Command>
     }
 }
 
-// A breadcrumb's number is at most 2^40.
+// A breadcrumb's number is at most `INPUT_BYTES`.
 fn stream_from(number: Option<u64>) -> Option<Command>
     ensures { result ≡ stream_from_of number }
 {
     match number {
-        Some(from) if from <= 1 << 40 => Some(Command::Stream { from }),
+        Some(from) if from <= INPUT_BYTES as u64 => Some(Command::Stream { from }),
         _ => None,
     }
 }

@@ -1,7 +1,8 @@
 -- Which values each key may have.
 --     broken key value    the first rule that the value breaks under the key, if it breaks one
-use Rattle.std.specs.Prelude.{ℕ, Bool, false, not, ◌&&◌, ◌==◌, nat_le, length, List, [], ◌∷◌, codes, Option, Some, None, is_none, if◌then◌else◌}
+use Rattle.std.specs.Prelude.{ℕ, Bool, false, not, ◌&&◌, ◌==◌, List, [], ◌∷◌, codes, Option, Some, None, is_none, if◌then◌else◌}
 use Rattle.serde_json.specs.Written.{has_float, compact_text}
+use Rattle.ty_base.specs.Limits.{value_fits}
 use Rattle.ty_net.specs.declared.address.Ip.{Ip}
 use Rattle.ty_net.specs.declared.address.Ip.TheVariants.{V4, V6}
 use Rattle.ty_net.specs.declared.cidr.Cidr.{Cidr}
@@ -14,7 +15,8 @@ use Rattle.ty_rules.specs.declared.rule.Rule.TheVariants as R
 use Rattle.ty_rules.specs.Tests.{Test, there_and, boolean, object, text, text_of, array_of, optional, required, all_of, whole}
 use Rattle.ty_rules.specs.Texts.{TextTest, this, one_of, interface, interface_or_all, mac}
 use Rattle.ty_rules.specs.Checks.{Check, row, in_order, if_given}
-use Rattle.ty_rules.specs.Parts.{labels, profiles, named_ports}
+use Rattle.ty_rules.specs.Parts.{profiles, named_ports}
+use Rattle.ty_values.specs.Labels.{labels}
 use Rattle.ty_values.specs.Nets.{is_v6, ip, addrs4, addrs6, nets, nets4, nets6, selector}
 use Rattle.ty_values.specs.PolicyRules.{v1_rules}
 use Rattle.ty_values.specs.Kinds.{spec_of}
@@ -44,15 +46,15 @@ workload = in_order (
     ∷ row R.Ports (optional (codes "ports") named_ports)
     ∷ [])
 
-abbrev pub direction : TextTest
-direction = one_of (codes "ingress" ∷ codes "egress" ∷ [])
+abbrev pub v1_direction : TextTest
+v1_direction = one_of (codes "ingress" ∷ codes "egress" ∷ [])
 
 abbrev pub policy : Check
 policy = in_order (
     row R.Shape object
     ∷ row R.Order (optional (codes "order") whole)
     ∷ row R.Selector (optional (codes "selector") selector)
-    ∷ row R.Types (optional (codes "types") (array_of (text_of direction)))
+    ∷ row R.Types (optional (codes "types") (array_of (text_of v1_direction)))
     ∷ if_given (codes "inbound_rules") v1_rules
     ∷ if_given (codes "outbound_rules") v1_rules
     ∷ [])
@@ -74,8 +76,7 @@ network_set = in_order (
 abbrev pub same_ip : Ip → Ip → Bool
 same_ip (V4 a) (V4 b) = a == b
 same_ip (V6 a) (V6 b) = a == b
-same_ip (V4 a) (V6 b) = false
-same_ip (V6 a) (V4 b) = false
+same_ip a b = false
 
 -- the network has this address and this length
 abbrev pub same_net : Ip → ℕ → Cidr → Bool
@@ -102,9 +103,9 @@ kind_name None = []
 kind_name (Some k) = k.kind
 
 -- the key's namespace, or where it has none nothing or an empty string
-abbrev pub in_namespace : Option (List ℕ) → Test
-in_namespace None = optional (codes "namespace") (text_of (this []))
-in_namespace (Some namespace) = required (codes "namespace") (text_of (this namespace))
+abbrev pub same_namespace : Option (List ℕ) → Test
+same_namespace None = optional (codes "namespace") (text_of (this []))
+same_namespace (Some namespace) = required (codes "namespace") (text_of (this namespace))
 
 -- the rules of a resource of this kind
 abbrev pub resource : List ℕ → Option (List ℕ) → List ℕ → Check
@@ -113,7 +114,7 @@ resource kind namespace name = in_order (
     ∷ row R.ApiVersion (optional (codes "apiVersion") (text_of (this (codes "projectcalico.org/v3"))))
     ∷ row R.ResourceKind (optional (codes "kind") (text_of (this kind)))
     ∷ row R.Name (optional (codes "metadata") (all_of (object ∷ required (codes "name") (text_of (this name)) ∷ [])))
-    ∷ row R.Namespace (optional (codes "metadata") (in_namespace namespace))
+    ∷ row R.Namespace (optional (codes "metadata") (same_namespace namespace))
     ∷ row R.Labels (optional (codes "metadata") (optional (codes "labels") labels))
     ∷ row R.Shape (optional (codes "spec") object)
     ∷ if_given (codes "spec") (spec_of kind)
@@ -137,13 +138,13 @@ of_key (K.Resource plural namespace name) = resource (kind_name (kind_of plural)
 abbrev pub whole_numbers : Test
 whole_numbers d = not (has_float d)
 
--- the compact text has so many bytes at most
-abbrev pub fits : Test
-fits d = nat_le (length (compact_text d)) 1048576
+-- the compact text is within its limit
+abbrev pub compact_fits : Test
+compact_fits d = value_fits (compact_text d)
 
 -- the first rule that the value breaks under the key
 unfoldable pub broken : Key → Check
-broken key = in_order (row R.Number whole_numbers ∷ row R.Size fits ∷ of_key key ∷ [])
+broken key = in_order (row R.Number whole_numbers ∷ row R.Size compact_fits ∷ of_key key ∷ [])
 
 abbrev pub valid : Key → Test
 valid key d = is_none (broken key d)

@@ -10,18 +10,19 @@ use Rattle.ty_rules.specs.declared.rule.Rule.TheVariants as R
 use Rattle.ty_rules.specs.Tests.{Test, given, if_there, boolean, text_of, array_of, optional, required, all_of, whole, whole_within}
 use Rattle.ty_rules.specs.Texts.{TextTest, one_of, interface_or_all}
 use Rattle.ty_rules.specs.Checks.{Check, row, in_order, if_given}
-use Rattle.ty_rules.specs.Parts.{labels, profiles}
+use Rattle.ty_rules.specs.Parts.{profiles}
+use Rattle.ty_values.specs.Labels.{labels}
 use Rattle.ty_values.specs.Nets.{addrs, nets, cidr, selector}
 use Rattle.ty_values.specs.PolicyRules.{v3_rules}
 
-abbrev pub direction : TextTest
-direction = one_of (codes "Ingress" ∷ codes "Egress" ∷ [])
+abbrev pub v3_direction : TextTest
+v3_direction = one_of (codes "Ingress" ∷ codes "Egress" ∷ [])
 
 abbrev pub policy_spec : Check
 policy_spec = in_order (
     row R.Order (optional (codes "order") whole)
     ∷ row R.Selector (optional (codes "selector") selector)
-    ∷ row R.Types (optional (codes "types") (array_of (text_of direction)))
+    ∷ row R.Types (optional (codes "types") (array_of (text_of v3_direction)))
     ∷ if_given (codes "ingress") v3_rules
     ∷ if_given (codes "egress") v3_rules
     ∷ [])

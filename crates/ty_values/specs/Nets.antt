@@ -2,10 +2,11 @@
 use Rattle.std.specs.Prelude.{Bool, true, false, [], ◌∷◌, is_some, is_ok}
 use Rattle.ty_net.specs.declared.address.Ip.{Ip}
 use Rattle.ty_net.specs.declared.address.Ip.TheVariants.{V4, V6}
+use Rattle.ty_net.specs.declared.ports.TheConstants.{GREATEST_PORT}
 use Rattle.ty_net.specs.Addresses.{ip_of}
 use Rattle.ty_net.specs.Cidrs.{cidr_of}
 use Rattle.ty_net.specs.Ports.{ports_of}
-use Rattle.ty_select.specs.Reading.{selector_of}
+use Rattle.ty_select.specs.Expressions.{selector_of}
 use Rattle.ty_rules.specs.Tests.{Test, there_and, text_of, array_of, any_of, whole_within}
 use Rattle.ty_rules.specs.Texts.{TextTest, port_name}
 
@@ -65,7 +66,7 @@ nets6 = array_of (text_of cidr6)
 
 -- by number, as a range, or by name
 abbrev pub port : Test
-port = any_of (whole_within 0 65535 ∷ text_of port_range ∷ text_of port_name ∷ [])
+port = any_of (whole_within 0 GREATEST_PORT ∷ text_of port_range ∷ text_of port_name ∷ [])
 
 abbrev pub ports : Test
 ports = array_of port

@@ -4,12 +4,13 @@ ghost use Rattle.serde_json.specs.View.{view};
 ghost use Rattle.ty_rules.specs.Checks.{Tells};
 ghost use Rattle.ty_values.specs.Keys.{host_endpoint, state, workload};
 
+use crate::label::Labels;
 use crate::nets::{Cidr4, Cidr6, Ip4, Ip6};
 use serde_json::Value;
 use std::alloc::Global;
 use ty_rules::{
-    ArrayOf, Check, Interface, InterfaceOrAll, IsObject, Labels, Mac, NamedPorts, Optional,
-    Profiles, Required, Row, Rule, Test, TextOf, TextTest, ValueFault, all_of, table,
+    ArrayOf, Check, Interface, InterfaceOrAll, IsObject, Mac, NamedPorts, Optional, Profiles,
+    Required, Row, Rule, Test, TextOf, TextTest, ValueFault, all_of, table,
 };
 
 /// The first rule that a host endpoint's value breaks.

@@ -5,13 +5,14 @@ ghost use Rattle.ty_rules.specs.Checks.{Tells};
 ghost use Rattle.ty_values.specs.Keys.{of_key};
 
 use crate::endpoints::{check_host_endpoint, check_workload};
+use crate::label::Labels;
 use crate::nets::IpText;
 use crate::policies::{check_network_set, check_policy, check_profile_rules};
 use crate::resources::{check_pool, check_resource};
 use serde_json::Value;
 use std::alloc::Global;
 use ty_keys::Key;
-use ty_rules::{Check, IsBool, IsText, Labels, Row, Rule, TextOf, ValueFault};
+use ty_rules::{Check, IsBool, IsText, Row, Rule, TextOf, ValueFault};
 
 /// What a value breaks of the rules of a key's form.
 pub fn check_form(alloc: Global, key: &Key, value: &Value) -> Result<(), ValueFault>

@@ -2,8 +2,9 @@
 ghost use Rattle.std.specs.Prelude.{◌≡◌, Option};
 ghost use Rattle.serde_json.specs.View.{view};
 ghost use Rattle.ty_rules.specs.Checks.{Tells};
-ghost use Rattle.ty_values.specs.Kinds.{direction, policy_spec, profile_spec, network_set_spec, host_endpoint_spec, cidr_in, widest_block, block_of, block_size, pool_spec, tier_spec, spec_of};
+ghost use Rattle.ty_values.specs.Kinds.{v3_direction, policy_spec, profile_spec, network_set_spec, host_endpoint_spec, cidr_in, widest_block, block_of, block_size, pool_spec, tier_spec, spec_of};
 
+use crate::label::Labels;
 use crate::nets::{CidrText, IpText};
 use crate::policy_rules::V3Rules;
 use crate::selectors::SelectorAt;
@@ -11,15 +12,15 @@ use serde_json::Value;
 use std::alloc::Global;
 use ty_net::{Cidr, Ip, read_cidr};
 use ty_rules::{
-    ArrayOf, Check, IfGiven, InterfaceOrAll, IsBool, Labels, Optional, Profiles, Required, Row,
-    Rule, Test, TextOf, TextTest, ValueFault, Whole, all_of, given, is_whole_within, table,
+    ArrayOf, Check, IfGiven, InterfaceOrAll, IsBool, Optional, Profiles, Required, Row, Rule, Test,
+    TextOf, TextTest, ValueFault, Whole, all_of, given, is_whole_within, table,
 };
 
 #[derive(Drop)]
 struct Direction;
 
 impl TextTest for Direction {
-    ghost reads = { λ _. direction };
+    ghost reads = { λ _. v3_direction };
 
     fn takes(&self, text: &str) -> bool {
         matches!(text, "Ingress" | "Egress")

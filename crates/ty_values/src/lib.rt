@@ -1,10 +1,13 @@
 //! Which values each key may have, and the item that a line of the feed is.
 #![tactic(auto)]
 
-mod cleaning;
 mod endpoints;
+mod item;
+#[cfg(test)]
+mod item_tests;
 mod keys;
 mod kinds;
+mod label;
 mod line;
 mod nets;
 mod policies;
@@ -15,7 +18,7 @@ mod selectors;
 mod tests;
 mod validity;
 
-pub use cleaning::clean;
+pub use item::clean;
 pub use line::{Cleaned, Line};
 pub use ty_rules::{Rule, ValueFault};
 pub use validity::{check, check_text};

@@ -3,7 +3,7 @@ ghost use Rattle.std.specs.Prelude.{◌≡◌};
 ghost use Rattle.ty_values.specs.Nets.{is_v4, is_v6, ip, ip4, ip6, cidr, cidr4, cidr6, port_range, ports, addrs, addrs4, addrs6, nets, nets4, nets6};
 
 use serde_json::Value;
-use ty_net::{Cidr, Ip, read_cidr, read_ip, read_ports};
+use ty_net::{Cidr, GREATEST_PORT, Ip, read_cidr, read_ip, read_ports};
 use ty_rules::{ArrayOf, PortName, Test, TextOf, TextTest, WholeWithin};
 
 /// Whether an address is one of IPv4.
@@ -125,7 +125,7 @@ impl Test for Ports {
 
     fn accepts(&self, value: &Value) -> bool {
         ArrayOf(ty_rules::any_of![
-            WholeWithin(0, 65_535),
+            WholeWithin(0, GREATEST_PORT),
             TextOf(PortRangeText),
             TextOf(PortName),
         ])

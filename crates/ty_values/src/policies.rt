@@ -2,23 +2,24 @@
 ghost use Rattle.std.specs.Prelude.{◌≡◌};
 ghost use Rattle.serde_json.specs.View.{view};
 ghost use Rattle.ty_rules.specs.Checks.{Tells};
-ghost use Rattle.ty_values.specs.Keys.{direction, policy, profile_rules, network_set};
+ghost use Rattle.ty_values.specs.Keys.{v1_direction, policy, profile_rules, network_set};
 
+use crate::label::Labels;
 use crate::nets::CidrText;
 use crate::policy_rules::V1Rules;
 use crate::selectors::SelectorAt;
 use serde_json::Value;
 use std::alloc::Global;
 use ty_rules::{
-    ArrayOf, Check, IfGiven, IsObject, Labels, Optional, Row, Rule, TextOf, TextTest, ValueFault,
-    Whole, table,
+    ArrayOf, Check, IfGiven, IsObject, Optional, Row, Rule, TextOf, TextTest, ValueFault, Whole,
+    table,
 };
 
 #[derive(Drop)]
 struct Direction;
 
 impl TextTest for Direction {
-    ghost reads = { λ _. direction };
+    ghost reads = { λ _. v1_direction };
 
     fn takes(&self, text: &str) -> bool {
         matches!(text, "ingress" | "egress")

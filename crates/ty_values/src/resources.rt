@@ -3,9 +3,10 @@ ghost use Rattle.std.specs.Prelude.{◌≡◌};
 ghost use Rattle.serde_json.specs.View.{view};
 ghost use Rattle.ty_keys.specs.Plurals.{kind_of as kind_named};
 ghost use Rattle.ty_rules.specs.Checks.{Tells};
-ghost use Rattle.ty_values.specs.Keys.{same_ip, same_net, same_version, net_of_key, pool, kind_name, in_namespace, resource};
+ghost use Rattle.ty_values.specs.Keys.{same_ip, same_net, same_version, net_of_key, pool, kind_name, same_namespace, resource};
 
 use crate::kinds::SpecOf;
+use crate::label::Labels;
 use crate::nets::is_v6;
 use serde_json::Value;
 use std::alloc::Global;
@@ -13,8 +14,8 @@ use ty_base::Text;
 use ty_keys::kind_of;
 use ty_net::{Cidr, Ip, read_cidr, read_ip};
 use ty_rules::{
-    Check, IfGiven, IsBool, IsObject, Labels, Optional, Required, Row, Rule, Test, TextOf,
-    TextTest, This, ValueFault, all_of, table,
+    Check, IfGiven, IsBool, IsObject, Optional, Required, Row, Rule, Test, TextOf, TextTest, This,
+    ValueFault, all_of, table,
 };
 
 fn is_same_ip(a: Ip, b: Ip) -> bool
@@ -97,7 +98,7 @@ fn kind_name(plural: &Text) -> &'static str
 struct InNamespace<'k>(&'k Option<Text>);
 
 impl Test for InNamespace<'_> {
-    ghost holds = { λ t. in_namespace t.0.now };
+    ghost holds = { λ t. same_namespace t.0.now };
 
     fn accepts(&self, metadata: &Value) -> bool {
         match self.0 {

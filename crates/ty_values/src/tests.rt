@@ -1,10 +1,9 @@
 // Values as a cluster has them, and each way to break a rule, by the rules' own order.
-use crate::{Cleaned, Line, Rule, ValueFault, check, clean};
+use crate::{Rule, ValueFault, check};
 use serde_json::Value;
 use std::alloc::Global;
 use std::process::Abort;
 use std::test::Fail;
-use ty_base::{Item, Status, Text};
 use ty_keys::Key;
 
 const READY: &str = "/calico/v1/Ready";
@@ -102,7 +101,10 @@ const VALID: [(&str, &str); 30] = [
         RULES,
         r#"{"inbound_rules":[],"outbound_rules":[{"action":"next-tier","protocol":255}]}"#,
     ),
-    (LABELS, r#"{"pcns.name":"default"}"#),
+    (
+        LABELS,
+        r#"{"pcns.name":"default","projectcalico.org/name":""}"#,
+    ),
     (NETSET, r#"{"nets":["10.0.0.0/8","::/0"],"labels":{}}"#),
     (
         POOL,
@@ -175,9 +177,16 @@ const VALID: [(&str, &str); 30] = [
     ),
 ];
 
-const BROKEN: [(&str, &str, Rule); 58] = [
+const BROKEN: [(&str, &str, Rule); 68] = [
     (POOL, r#"{"cidr":"10.1.0.0/16","x":0.5}"#, Rule::Number),
     (READY, r#"[[{"a":1e3}]]"#, Rule::Number),
+    (READY, "-0", Rule::Number),
+    (READY, "1.0", Rule::Number),
+    (READY, "1e2", Rule::Number),
+    (READY, "18446744073709551616", Rule::Number),
+    (READY, "-9223372036854775809", Rule::Number),
+    (READY, "18446744073709551615", Rule::Ready),
+    (READY, "-9223372036854775808", Rule::Ready),
     (READY, "1", Rule::Ready),
     (READY, "null", Rule::Ready),
     (CONFIG, "7", Rule::Config),
@@ -221,6 +230,9 @@ const BROKEN: [(&str, &str, Rule); 58] = [
     (POLICY, r#"{"types":["Ingress"]}"#, Rule::Types),
     (POLICY, r#"{"inbound_rules":{}}"#, Rule::Shape),
     (LABELS, r#"{"a b":"c"}"#, Rule::Labels),
+    (LABELS, r#"{"":"x"}"#, Rule::Labels),
+    (LABELS, r#"{"a":"x","b":null}"#, Rule::Labels),
+    (LABELS, r#"["a"]"#, Rule::Labels),
     (NETSET, r#"{"nets":"10.0.0.0/8"}"#, Rule::Nets),
     (POOL, "[]", Rule::Shape),
     (POOL, r#"{"cidr":"10.1.0.0/16"}"#, Rule::PoolCidr),
@@ -398,89 +410,25 @@ fn values_are_judged_by_the_rules_of_their_keys(rt: HostRuntime) -> Result<(), F
 #[test]
 fn rules_of_policies_are_judged_member_by_member(rt: HostRuntime) -> Result<(), Fail> {
     for (text, rule) in &V1_RULES {
-        let value = format!(in rt.alloc(); "{{\"outbound_rules\":[{{}},{text}]}}")?;
-        assert_eq!(rt;
-            broken(&rt, rt.alloc(), RULES, value.as_str()),
-            Some(*rule),
-            "{text}"
-        );
-        assert_eq!(rt;
-            broken(&rt, rt.alloc(), POLICY, value.as_str()),
-            Some(*rule),
-            "{text}"
-        );
+        let value = format!(in rt.alloc(); r#"{{"outbound_rules":[{{}},{text}]}}"#)?;
+        for key in [RULES, POLICY] {
+            assert_eq!(rt;
+                broken(&rt, rt.alloc(), key, value.as_str()),
+                Some(*rule),
+                "{text}"
+            );
+        }
     }
     for (text, rule) in &V3_RULES {
-        let value = format!(in rt.alloc(); "{{\"spec\":{{\"ingress\":[{text}]}}}}")?;
-        assert_eq!(rt;
-            broken(&rt, rt.alloc(), PROFILE, value.as_str()),
-            Some(*rule),
-            "{text}"
-        );
-        assert_eq!(rt;
-            broken(&rt, rt.alloc(), NETWORK_POLICY, value.as_str()),
-            Some(*rule),
-            "{text}"
-        );
-    }
-    Ok(())
-}
-
-// The line's item as a text: the key, `=` and the value of a put, and the key alone of a deletion.
-fn cleaned(
-    rt: &impl Abort,
-    alloc: Global,
-    key: &str,
-    value: Option<&str>,
-) -> (String, Option<Rule>) {
-    let key = Text::of(alloc, key).expect(rt, "memory");
-    let value = value.map(|text| Value::from_str(alloc, text).expect(rt, "a JSON text"));
-    let Cleaned { item, broken } = clean(alloc, &Line::Update { key, value }).expect(rt, "memory");
-    let text = match &item {
-        Some(Item::Put { key, value }) => {
-            format!(in alloc; "{}={}", key.as_str(), value.as_str())
+        let value = format!(in rt.alloc(); r#"{{"spec":{{"ingress":[{text}]}}}}"#)?;
+        for key in [PROFILE, NETWORK_POLICY] {
+            assert_eq!(rt;
+                broken(&rt, rt.alloc(), key, value.as_str()),
+                Some(*rule),
+                "{text}"
+            );
         }
-        Some(Item::Del { key }) => format!(in alloc; "{}", key.as_str()),
-        Some(Item::State(_) | Item::Mark) => format!(in alloc; "state or mark"),
-        None => format!(in alloc; "none"),
-    };
-    (text.expect(rt, "memory"), broken)
-}
-
-const CLEANED: [(&str, Option<&str>, &str, Option<Rule>); 7] = [
-    (
-        WORKLOAD,
-        Some(
-            r#"{ "name": "cali1", "ipv4_nets": ["10.0.0.1/32"], "b": {"d": 1, "c": -2, "C": "\u00e9\/"} }"#,
-        ),
-        "/calico/v1/host/n1/workload/k8s/p1/endpoint/eth0={\"b\":{\"C\":\"é/\",\"c\":-2,\"d\":1},\
-        \"ipv4_nets\":[\"10.0.0.1/32\"],\"name\":\"cali1\"}",
-        None,
-    ),
-    (
-        WORKLOAD,
-        Some(r#"{"name":"cali1","ipv4_nets":["10.0.0.1/33"]}"#),
-        WORKLOAD,
-        Some(Rule::Nets),
-    ),
-    (READY, Some("true"), "/calico/v1/Ready=true", None),
-    (CONFIG, Some("null"), CONFIG, None),
-    (CONFIG, None, CONFIG, None),
-    ("/calico/v2/x", Some("0.5"), "none", None),
-    ("/calico/v1/config/", None, "none", None),
-];
-
-#[test]
-fn each_line_gives_its_item(rt: HostRuntime) -> Result<(), Fail> {
-    for (key, value, item, rule) in &CLEANED {
-        let (text, broken) = cleaned(&rt, rt.alloc(), key, *value);
-        assert_eq!(rt; text.as_str(), *item);
-        assert_eq!(rt; broken, *rule);
     }
-    let status = clean(rt.alloc(), &Line::Status(Status::InSync)).expect(&rt, "memory");
-    assert!(rt; matches!(status.item, Some(Item::State(Status::InSync))));
-    let blank = clean(rt.alloc(), &Line::Blank).expect(&rt, "memory");
-    assert!(rt; matches!(blank.item, Some(Item::Mark)));
     Ok(())
 }
 
@@ -494,9 +442,9 @@ fn letters(alloc: Global, count: usize) -> Result<String, Fail> {
 
 #[test]
 fn a_value_has_at_most_1048576_bytes_as_compact_text(rt: HostRuntime) -> Result<(), Fail> {
-    let most = format!(in rt.alloc(); "  \"{}\"", letters(rt.alloc(), 1_048_574)?)?;
+    let most = format!(in rt.alloc(); r#"  "{}""#, letters(rt.alloc(), 1_048_574)?)?;
     assert_eq!(rt; broken(&rt, rt.alloc(), CONFIG, most.as_str()), None);
-    let more = format!(in rt.alloc(); "\"{}\"", letters(rt.alloc(), 1_048_575)?)?;
+    let more = format!(in rt.alloc(); r#""{}""#, letters(rt.alloc(), 1_048_575)?)?;
     assert_eq!(rt;
         broken(&rt, rt.alloc(), CONFIG, more.as_str()),
         Some(Rule::Size)

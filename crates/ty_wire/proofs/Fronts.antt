@@ -9,19 +9,20 @@ use Rattle.std.proofs.lemmas.Bool.Decides.{nat_tests}
 use Rattle.std.proofs.lemmas.List.{drop-drop, length-take, get_or-take, get_or_past, take-append-drop}
 use Rattle.std.proofs.Math.Seq.{take-append_seam, drop-append_seam}
 use Rattle.std.proofs.lemmas.Nat.{be_bytes_4, from_be_bytes-to_be_bytes_4}
+use Rattle.ty_base.specs.declared.limits.TheConstants.{BODY_BYTES}
 use Rattle.ty_wire.specs.Wire.{body, frame, frames, parts_fit, IsWire, IsJson, Spells}
-use Rattle.ty_wire.specs.Tokens.{data_of}
+use Rattle.ty_wire.specs.steps.Tokens.{data_of}
 use Rattle.ty_wire.specs.Stream.{told_len, body_at, IsPart, IsBad}
-use Rattle.ty_wire.specs.Steps.{IsFirst}
+use Rattle.ty_wire.specs.steps.Frames.{IsFirst}
 use Rattle.ty_wire.specs.declared.message.Msg.{Msg}
-use Rattle.ty_wire.specs.declared.splitting.WireFault.{WireFault}
-use Rattle.ty_wire.specs.declared.splitting.WireFault.TheVariants.{TooLong, NotJson, Shape, TooMuch}
+use Rattle.ty_wire.specs.declared.fault.WireFault.{WireFault}
+use Rattle.ty_wire.specs.declared.fault.WireFault.TheVariants.{TooLong, NotJson, Shape, TooMuch}
 use Rattle.ty_wire.proofs.Read.{both, read-body, one_message}
 
 abbrev pub IsBytes : List ℕ → Type 0
 IsBytes bytes = (i : ℕ) → get_or bytes i 0 < 256
 
-IsBytes-take : (n : ℕ) (bytes : List ℕ) → IsBytes bytes → IsBytes (take n bytes)
+pub IsBytes-take : (n : ℕ) (bytes : List ℕ) → IsBytes bytes → IsBytes (take n bytes)
 IsBytes-take n bytes h i =
     elim (cases_lt i n) [
       | inl lt ↦ rw (get_or-take n bytes i 0 lt) (h i)
@@ -53,8 +54,8 @@ first bytes m n b w e s =
 
 -- ---- a frame at the front
 
-wire-len : (m : Msg) → IsWire m → length (body m) ≤ 8388608
-wire-len m w = let h : nat_le (length (body m)) 8388608 ≡ true = (both (parts_fit m) _ w.fits).1 in grind (arith, nat_tests)
+wire-len : (m : Msg) → IsWire m → length (body m) ≤ BODY_BYTES
+wire-len m w = let h : nat_le (length (body m)) BODY_BYTES ≡ true = (both (parts_fit m) _ w.fits).1 in grind (arith, nat_tests)
 
 take4 : (h x : List ℕ) → length h ≡ 4 → take 4 (h ++ x) ≡ h
 take4 h x e = let P : ℕ → Type 0 = λ k. take k (h ++ x) ≡ h in subst P e (take-append_seam h x)
@@ -66,13 +67,13 @@ pub record Front (bytes : List ℕ) (m : Msg) (more : List ℕ) : Type 0 where
   pub told : told_len bytes ≡ length (body m)
   pub text : body_at bytes ≡ body m
   pub len : 4 + length (body m) ≤ length bytes
-  pub short : length (body m) ≤ 8388608
+  pub short : length (body m) ≤ BODY_BYTES
 
 pub front : (bytes : List ℕ) (m : Msg) (more : List ℕ) → IsWire m → bytes ≡ frame m ++ more → Front bytes m more
 front bytes m more w e =
     let h : List ℕ = to_be_bytes w32 (length (body m)) in
     let assoc : bytes ≡ h ++ (body m ++ more) = e ∙ append_assoc h (body m) more in
-    let short : length (body m) ≤ 8388608 = wire-len m w in
+    let short : length (body m) ≤ BODY_BYTES = wire-len m w in
     let told : told_len bytes ≡ length (body m) = ap told_len assoc ∙ ap (from_be_bytes w32) (take4 h (body m ++ more) refl) ∙ from_be_bytes-to_be_bytes_4 (length (body m)) (omega arith) in
     record {
       told = told;

@@ -6,8 +6,8 @@ use Rattle.std.specs.Prelude.{Option, None, Some, option_map}
 use Rattle.std.proofs.lemmas.List.{drop_all}
 use Rattle.serde_json.specs.View.{view, items_view}
 use Rattle.serde_json.specs.declared.value.Value.{Value}
-use Rattle.ty_wire.specs.Tokens.{delta_data, deltas_data, data_of}
-use Rattle.ty_wire.specs.Members.{delta_of, delta_with, deltas_of, cons_if, msg_of}
+use Rattle.ty_wire.specs.steps.Tokens.{delta_data, deltas_data, data_of}
+use Rattle.ty_wire.specs.steps.Members.{delta_of, delta_with, deltas_of, cons_if, msg_of}
 use Rattle.ty_wire.specs.declared.message.Msg.{Msg}
 use Rattle.ty_wire.specs.declared.message.Msg.TheVariants.{ClientHello, ServerHello, Kvs, Status as StatusMsg, Crumb, Ping, Pong}
 use Rattle.ty_base.specs.declared.status.Status.TheVariants.{Wait, Resync, InSync}

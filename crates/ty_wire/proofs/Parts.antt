@@ -6,14 +6,15 @@ use Rattle.std.proofs.lemmas.List.Sums.{sum_by-cons, sum_by_push}
 use Rattle.std.proofs.lemmas.List.Folds.{list_all-append}
 use Rattle.std.proofs.lemmas.Bool.{ltb-true, leb-true}
 use Rattle.std.proofs.lemmas.List.{length-take-le, drop_all, take_more}
-use Rattle.std.proofs.lemmas.Bool.Decides.{nat_tests}
 use Rattle.json.specs.Print.{escape_byte, escape_letter, escape, quoted}
+use Rattle.ty_base.specs.declared.limits.TheConstants.{BODY_BYTES, KEY_BYTES, MESSAGE_DELTAS, VALUE_BYTES}
+use Rattle.ty_base.specs.Passing.{delta_passes, option_passes}
+use Rattle.ty_base.specs.Limits.{key_fits, value_fits, deltas_fit}
 use Rattle.ty_base.specs.declared.delta.Kind.{Kind}
 use Rattle.ty_base.specs.declared.delta.Kind.TheVariants.{New, Updated, Deleted}
 use Rattle.ty_base.specs.declared.delta.Delta.{Delta}
-use Rattle.ty_wire.specs.Limits.{value_len, delta_fits, within_limits, IsWithinLimits}
 use Rattle.ty_wire.specs.Wire.{kind_text, value_text, delta_text, more_deltas, deltas_text, body, message_fits}
-use Rattle.ty_wire.specs.Cutting.{weight, takes, cut_on, cut_deltas}
+use Rattle.ty_wire.specs.Cut.{value_len, weight, takes, cut_on, cut_deltas}
 use Rattle.ty_wire.specs.declared.message.Msg.TheVariants.{Kvs}
 
 both_of : (a b : Bool) → (a && b) ≡ true → (a ≡ true) × (b ≡ true)
@@ -56,7 +57,7 @@ begins-weight (x ∷ ds) d h e = ap weight e ∙ omega (arith, sum_by-cons weigh
 
 -- whether the message of the first n takes the next, by their number and their weight
 abbrev pub by_count : ℕ → ℕ → Delta → Bool
-by_count n w d = nat_lt n 100 && nat_le (w + weight d) 1048576
+by_count n w d = nat_lt n MESSAGE_DELTAS && nat_le (w + weight d) VALUE_BYTES
 
 is_by_count : (ds : List Delta) (n w : ℕ) (d : Delta) → n ≤ length ds → w ≡ sum_by weight (take n ds) → takes (take n ds) d ≡ by_count n w d
 is_by_count ds n w d h e = rw (length-take-le n ds h, ← e) refl
@@ -138,10 +139,19 @@ body-len ds = omega (arith, length-append (deltas_text ds) (codes "],\"m\":\"kvs
 
 -- ---- a message that is being filled fits
 
-one-weight : (d : Delta) → delta_fits d ≡ true → weight d ≤ 1049600
-one-weight d h = grind (arith, nat_tests)
+abbrev pub delta_fits : Delta → Bool
+delta_fits d = delta_passes key_fits value_fits d
 
-light : (ds : List Delta) → within_limits ds ≡ true → sum_by weight ds ≤ 1048576 ⊎ length ds ≡ 1 → sum_by weight ds ≤ 1049600
+value-weight : (v : Option (List ℕ)) → option_passes value_fits v ≡ true → value_len v ≤ VALUE_BYTES
+value-weight None h = omega arith
+value-weight (Some v) h = leb-true (length v) VALUE_BYTES h
+
+one-weight : (d : Delta) → delta_fits d ≡ true → weight d ≤ KEY_BYTES + VALUE_BYTES
+one-weight d h =
+    let b = both_of (key_fits d.key) (option_passes value_fits d.value) h in
+    omega (arith, leb-true (length d.key) KEY_BYTES b.0, value-weight d.value b.1)
+
+light : (ds : List Delta) → deltas_fit ds ≡ true → sum_by weight ds ≤ VALUE_BYTES ⊎ length ds ≡ 1 → sum_by weight ds ≤ KEY_BYTES + VALUE_BYTES
 light ds w (inl h) = omega arith
 light [] w (inr h) = omega arith
 light (d ∷ []) w (inr h) = omega (arith, one-weight d (both_of (delta_fits d) true w).0)
@@ -149,9 +159,9 @@ light (d ∷ e ∷ ds) w (inr h) = absurd (omega arith)
 
 pub record IsFilling (ds : List Delta) : Type 0 where
   pub some : 0 < length ds
-  pub most : length ds ≤ 100
-  pub limits : within_limits ds ≡ true
-  pub light : sum_by weight ds ≤ 1048576 ⊎ length ds ≡ 1
+  pub most : length ds ≤ MESSAGE_DELTAS
+  pub limits : deltas_fit ds ≡ true
+  pub light : sum_by weight ds ≤ VALUE_BYTES ⊎ length ds ≡ 1
 
 abbrev pub Fits : List Delta → Type 0
 Fits ds = message_fits (Kvs ds) ≡ true
@@ -159,8 +169,8 @@ Fits ds = message_fits (Kvs ds) ≡ true
 fits : (ds : List Delta) → IsFilling ds → Fits ds
 fits ds f =
     let a : nat_lt 0 (length ds) ≡ true = lt-ltb 0 (length ds) f.some in
-    let b : nat_le (length ds) 100 ≡ true = le-leb (length ds) 100 f.most in
-    let c : nat_le (length (body (Kvs ds))) 8388608 ≡ true = le-leb (length (body (Kvs ds))) 8388608 (omega (arith, body-len ds, light ds f.limits f.light, f.most)) in
+    let b : nat_le (length ds) MESSAGE_DELTAS ≡ true = le-leb (length ds) MESSAGE_DELTAS f.most in
+    let c : nat_le (length (body (Kvs ds))) BODY_BYTES ≡ true = le-leb (length (body (Kvs ds))) BODY_BYTES (omega (arith, body-len ds, light ds f.limits f.light, f.most)) in
     rw (a, b, f.limits, c) refl
 
 one : (d : Delta) → delta_fits d ≡ true → IsFilling (d ∷ [])
@@ -168,9 +178,9 @@ one d h = record { some = omega arith; most = omega arith; limits = rw h refl; l
 
 taken : (filling : List Delta) (d : Delta) → IsFilling filling → delta_fits d ≡ true → takes filling d ≡ true → IsFilling (filling ++ d ∷ [])
 taken filling d f h t =
-    let b : (nat_lt (length filling) 100 ≡ true) × (nat_le (sum_by weight filling + weight d) 1048576 ≡ true) = both_of (nat_lt (length filling) 100) (nat_le (sum_by weight filling + weight d) 1048576) t in
-    let n : length filling < 100 = ltb-true (length filling) 100 b.0 in
-    let w : sum_by weight filling + weight d ≤ 1048576 = leb-true (sum_by weight filling + weight d) 1048576 b.1 in
+    let b : (nat_lt (length filling) MESSAGE_DELTAS ≡ true) × (nat_le (sum_by weight filling + weight d) VALUE_BYTES ≡ true) = both_of (nat_lt (length filling) MESSAGE_DELTAS) (nat_le (sum_by weight filling + weight d) VALUE_BYTES) t in
+    let n : length filling < MESSAGE_DELTAS = ltb-true (length filling) MESSAGE_DELTAS b.0 in
+    let w : sum_by weight filling + weight d ≤ VALUE_BYTES = leb-true (sum_by weight filling + weight d) VALUE_BYTES b.1 in
     record {
       some = omega (arith, length-append filling (d ∷ []));
       most = omega (arith, length-append filling (d ∷ []), n);
@@ -178,29 +188,29 @@ taken filling d f h t =
       light = inl (omega (arith, sum_by_push weight filling d, w));
     }
 
-all-fit-on : (filling rest : List Delta) → IsFilling filling → within_limits rest ≡ true → AllByRecursion Fits (cut_on filling rest)
+all-fit-on : (filling rest : List Delta) → IsFilling filling → deltas_fit rest ≡ true → AllByRecursion Fits (cut_on filling rest)
 unfolding cut_on
 all-fit-on filling [] f w = (fits filling f, tt)
 all-fit-on filling (d ∷ ds) f w =
-    let h : (delta_fits d ≡ true) × (within_limits ds ≡ true) = both_of (delta_fits d) (within_limits ds) w in
+    let h : (delta_fits d ≡ true) × (deltas_fit ds ≡ true) = both_of (delta_fits d) (deltas_fit ds) w in
     elim (takes filling d) as (λ b. takes filling d ≡ b → AllByRecursion Fits (cond b (cut_on (filling ++ d ∷ []) ds) (filling ∷ cut_on (d ∷ []) ds))) [
       | true ↦ λ t. all-fit-on (filling ++ d ∷ []) ds (taken filling d f h.0 t) h.1
       | false ↦ λ t. (fits filling f, all-fit-on (d ∷ []) ds (one d h.0) h.1)
     ] refl
 
-pub all-fit : (ds : List Delta) → IsWithinLimits ds → AllByRecursion Fits (cut_deltas ds)
+pub all-fit : (ds : List Delta) → deltas_fit ds ≡ true → AllByRecursion Fits (cut_deltas ds)
 all-fit [] w = tt
 all-fit (d ∷ ds) w =
-    let h : (delta_fits d ≡ true) × (within_limits ds ≡ true) = both_of (delta_fits d) (within_limits ds) w in
+    let h : (delta_fits d ≡ true) × (deltas_fit ds ≡ true) = both_of (delta_fits d) (deltas_fit ds) w in
     all-fit-on (d ∷ []) ds (one d h.0) h.1
 
-pub front-fits : (ds : List Delta) (n : ℕ) → IsWithinLimits ds → cut_deltas ds ≡ take n ds ∷ cut_deltas (drop n ds) → Fits (take n ds)
+pub front-fits : (ds : List Delta) (n : ℕ) → deltas_fit ds ≡ true → cut_deltas ds ≡ take n ds ∷ cut_deltas (drop n ds) → Fits (take n ds)
 front-fits ds n w e = let P : List (List Delta) → Type 0 = AllByRecursion Fits in (subst P e (all-fit ds w)).0
 
-pub within-drop : (n : ℕ) (ds : List Delta) → IsWithinLimits ds → IsWithinLimits (drop n ds)
+pub within-drop : (n : ℕ) (ds : List Delta) → deltas_fit ds ≡ true → deltas_fit (drop n ds) ≡ true
 within-drop zero ds w = w
 within-drop (suc n) [] w = w
-within-drop (suc n) (d ∷ ds) w = within-drop n ds (both_of (delta_fits d) (within_limits ds) w).1
+within-drop (suc n) (d ∷ ds) w = within-drop n ds (both_of (delta_fits d) (deltas_fit ds) w).1
 
 pub cut-all : (ds es : List Delta) (parts : List (List Delta)) (n : ℕ) → es ≡ ds → length es ≤ n → cut_deltas es ≡ parts ++ cut_deltas (drop n es) → cut_deltas ds ≡ parts
 cut-all ds es parts n e h c = ap cut_deltas (sym e) ∙ c ∙ ap (λ (l : List Delta). parts ++ cut_deltas l) (drop_all n es h) ∙ append-nil parts

@@ -11,14 +11,14 @@ use Rattle.json.specs.Tree as tree
 use Rattle.json.proofs.Printed.Tokens.{tokens-print}
 use Rattle.json.proofs.Printed.Trees.{value-json_tokens, ArePrintable-json_tokens}
 use Rattle.json.proofs.Printed.Decimals.{IsNumber-decimal}
-use Rattle.serde_json.specs.Data.{Data, Items, item}
+use Rattle.serde_json.specs.Data.{Data}
 use Rattle.serde_json.specs.Read.{read, max_depth, of_json, of_items}
 use Rattle.serde_json.specs.Written.{outline, items_outline}
 use Rattle.serde_json.proofs.Numbers.{number_of-decimal}
 use Rattle.ty_base.specs.Kinds.{tells}
 use Rattle.ty_wire.specs.Wire.{body, parts_fit, Spells, IsJson}
-use Rattle.ty_wire.specs.Tokens.{delta_data, deltas_data, data_of, msg_tokens}
-use Rattle.ty_wire.specs.Members.{msg_of}
+use Rattle.ty_wire.specs.steps.Tokens.{delta_data, deltas_data, data_of, msg_tokens}
+use Rattle.ty_wire.specs.steps.Members.{msg_of}
 use Rattle.ty_wire.proofs.Spelling.{print-msg_tokens}
 use Rattle.ty_wire.proofs.Members.{msg_of-data_of}
 use Rattle.ty_wire.specs.declared.message.Msg.{Msg}
@@ -72,10 +72,6 @@ shallow (Pong t) = omega arith
 delta-data : (k : List ℕ) (kind : Kind) (v : Option (List ℕ)) (t : tells kind v ≡ true) → of_json (outline (delta_data (record { key = k; kind = kind; value = v; told = t }))) ≡ Some (delta_data (record { key = k; kind = kind; value = v; told = t }))
 delta-data k kind None t = refl
 delta-data k kind (Some v) t = refl
-
-items_by : Option Data → Option Items → Option Items
-items_by (Some d) (Some ds) = Some (item d ds)
-items_by _ _ = None
 
 deltas-data : (ds : List Delta) → of_items (items_outline (deltas_data ds)) ≡ Some (deltas_data ds)
 deltas-data [] = refl

@@ -5,9 +5,9 @@ use Rattle.std.proofs.lemmas.Grind.{flat_map-append}
 use Rattle.std.proofs.lemmas.List.{drop-drop}
 use Rattle.ty_base.specs.declared.delta.Delta.{Delta}
 use Rattle.ty_wire.specs.Wire.{frame, frames, IsWire}
-use Rattle.ty_wire.specs.Cutting.{cut_deltas}
+use Rattle.ty_wire.specs.Cut.{cut_deltas}
 use Rattle.ty_wire.specs.Talk.{kvs_messages}
-use Rattle.ty_wire.specs.Sending.{Appends, IsSent}
+use Rattle.ty_wire.specs.steps.Sent.{Appends, IsSent}
 use Rattle.ty_wire.specs.declared.message.Msg.{Msg}
 use Rattle.ty_wire.specs.declared.message.Msg.TheVariants.{Kvs}
 

@@ -7,7 +7,7 @@ use Rattle.json.specs.Tree.{json_tokens, items_tokens}
 use Rattle.serde_json.specs.Written.{outline, items_outline, compact_text, items_text}
 use Rattle.serde_json.proofs.Texts.{print-outline}
 use Rattle.ty_wire.specs.Wire.{delta_text, more_deltas, deltas_text, body}
-use Rattle.ty_wire.specs.Tokens.{delta_data, deltas_data, data_of, msg_tokens, delta_tokens, kvs_tokens}
+use Rattle.ty_wire.specs.steps.Tokens.{delta_data, deltas_data, data_of, msg_tokens, delta_tokens, kvs_tokens}
 use Rattle.ty_wire.specs.declared.message.Msg.{Msg}
 use Rattle.ty_wire.specs.declared.message.Msg.TheVariants.{ClientHello, ServerHello, Kvs, Status as StatusMsg, Crumb, Ping, Pong}
 use Rattle.ty_base.specs.declared.status.Status.TheVariants.{Wait, Resync, InSync}

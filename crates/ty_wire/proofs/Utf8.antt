@@ -5,16 +5,16 @@ use Rattle.std.specs.List.{AllByRecursion}
 use Rattle.std.proofs.lemmas.Str.{IsUtf8-append, IsUtf8-nil, IsUtf8-from_ascii}
 use Rattle.std.proofs.lemmas.Fmt.{IsAscii-decimal}
 use Rattle.json.proofs.Printed.Utf8.{IsUtf8-are_ascii, IsUtf8-quoted}
+use Rattle.ty_base.specs.Limits.{deltas_fit}
 use Rattle.ty_base.specs.declared.status.Status.{Status}
 use Rattle.ty_base.specs.declared.status.Status.TheVariants.{Wait, Resync, InSync}
 use Rattle.ty_base.specs.Statuses.{status_text}
 use Rattle.ty_base.specs.declared.delta.Kind.{Kind}
 use Rattle.ty_base.specs.declared.delta.Kind.TheVariants.{New, Updated, Deleted}
 use Rattle.ty_base.specs.declared.delta.Delta.{Delta}
-use Rattle.ty_wire.specs.Limits.{IsWithinLimits}
 use Rattle.ty_wire.specs.Wire.{body, kind_text, value_text, delta_text, more_deltas, deltas_text, parts_fit, message_fits, IsWire, HasUtf8, ValueHasUtf8, DeltaHasUtf8}
-use Rattle.ty_wire.specs.Cutting.{takes, cut_on, cut_deltas}
-use Rattle.ty_wire.specs.Talk.{kvs_messages, status_messages, group}
+use Rattle.ty_wire.specs.Cut.{takes, cut_on, cut_deltas}
+use Rattle.ty_wire.specs.Talk.{kvs_messages, status_messages, group_messages}
 use Rattle.ty_wire.proofs.Read.{small, both}
 use Rattle.ty_wire.proofs.Parts.{Fits, all-fit}
 use Rattle.ty_wire.proofs.Sent.{all-append}
@@ -103,5 +103,5 @@ end-wire : (status : Option Status) (n : ℕ) → n < 2 ^ 64 → AllByRecursion 
 end-wire None n h = (is_wire (Crumb n) tt (crumb-fits n h), tt)
 end-wire (Some s) n h = (is_wire (StatusMsg s) tt (status-fits s), (is_wire (Crumb n) tt (crumb-fits n h), tt))
 
-pub group-wire : (ds : List Delta) (status : Option Status) (n : ℕ) → IsWithinLimits ds → AllByRecursion DeltaHasUtf8 ds → n < 2 ^ 64 → AllByRecursion IsWire (group ds status n)
+pub group-wire : (ds : List Delta) (status : Option Status) (n : ℕ) → deltas_fit ds ≡ true → AllByRecursion DeltaHasUtf8 ds → n < 2 ^ 64 → AllByRecursion IsWire (group_messages ds status n)
 group-wire ds status n w u h = all-append (kvs_messages ds) (status_messages status ++ Crumb n ∷ []) (kvs-wire (cut_deltas ds) (all-fit ds w) (parts ds u)) (end-wire status n h)

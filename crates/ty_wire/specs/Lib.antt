@@ -1,11 +1,7 @@
-pub mod Limits
 pub mod Wire
-pub mod Cutting
+pub mod Cut
 pub mod Talk
+pub mod Whole
 pub mod Stream
 pub mod Held
-pub mod Tokens
-pub mod Sending
-pub mod Members
-pub mod Bodies
-pub mod Steps
+pub mod steps

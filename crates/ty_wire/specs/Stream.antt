@@ -1,23 +1,26 @@
--- The bytes of a connection: frames of messages, and then a rest that is no whole frame, or a fault.
-use Rattle.std.specs.Prelude.{◌≡◌, ℕ, ◌+◌, ◌-◌, ◌^◌, ◌<◌, ◌≤◌, ◌⊎◌, List, ◌++◌, length, take, drop, Option, None, Some, false}
+-- The bytes of a connection: frames of messages, and then a rest that is no whole frame, or a
+-- fault.
+use Rattle.std.specs.Prelude.{◌≡◌, ℕ, ◌+◌, ◌-◌, ◌<◌, ◌≤◌, ◌⊎◌, List, ◌++◌, length, take, drop, Option, None, Some, false}
 use Rattle.std.specs.List.{AllByRecursion}
 use Rattle.std.specs.Int.{from_be_bytes, w32}
+use Rattle.ty_base.specs.declared.limits.TheConstants.{BODY_BYTES, INPUT_BYTES}
+use Rattle.ty_wire.specs.declared.frame.TheConstants.{HEAD_BYTES}
 use Rattle.ty_wire.specs.Wire.{frames, IsWire, IsJson, Spells}
 use Rattle.ty_wire.specs.declared.message.Msg.{Msg}
-use Rattle.ty_wire.specs.declared.splitting.WireFault.{WireFault}
-use Rattle.ty_wire.specs.declared.splitting.WireFault.TheVariants.{TooLong, NotJson, Shape, TooMuch}
-use Rattle.ty_wire.specs.Held.{Held}
+use Rattle.ty_wire.specs.declared.fault.WireFault.{WireFault}
+use Rattle.ty_wire.specs.declared.fault.WireFault.TheVariants.{TooLong, NotJson, Shape, TooMuch}
+use Rattle.ty_wire.specs.Held.{FramesHeld}
 
 -- the length that four bytes tell, and the body behind them
 abbrev pub told_len : List ℕ → ℕ
-told_len rest = from_be_bytes w32 (take 4 rest)
+told_len rest = from_be_bytes w32 (take HEAD_BYTES rest)
 
 abbrev pub body_at : List ℕ → List ℕ
-body_at rest = take (told_len rest) (drop 4 rest)
+body_at rest = take (told_len rest) (drop HEAD_BYTES rest)
 
 -- no whole frame, and the beginning of one
 abbrev pub IsPart : List ℕ → Type 0
-IsPart rest = (length rest < 4) ⊎ ((told_len rest ≤ 8388608) × (length rest < 4 + told_len rest))
+IsPart rest = (length rest < HEAD_BYTES) ⊎ ((told_len rest ≤ BODY_BYTES) × (length rest < HEAD_BYTES + told_len rest))
 
 -- the bytes are these messages' frames and a rest
 pub record Reads (bytes : List ℕ) (ms : List Msg) (rest : List ℕ) : Type 0 where
@@ -25,23 +28,15 @@ pub record Reads (bytes : List ℕ) (ms : List Msg) (rest : List ℕ) : Type 0 w
   pub each : AllByRecursion IsWire ms
   pub part : IsPart rest
 
--- the bytes read as the first of these messages, with no fault
-pub record Begins (bytes : List ℕ) (ms : List Msg) : Type 0 where
-  pub read : List Msg
-  pub later : List Msg
-  pub rest : List ℕ
-  pub whole : ms ≡ read ++ later
-  pub reads : Reads bytes read rest
-
 -- a whole frame within the limit
 pub record HasBody (rest : List ℕ) : Type 0 where
-  pub head : 4 ≤ length rest
-  pub short : told_len rest ≤ 8388608
-  pub whole : 4 + told_len rest ≤ length rest
+  pub head : HEAD_BYTES ≤ length rest
+  pub short : told_len rest ≤ BODY_BYTES
+  pub whole : HEAD_BYTES + told_len rest ≤ length rest
 
 -- no message's frame stands where the k-th frame begins, and why
 abbrev pub IsBad : ℕ → List ℕ → WireFault → Type 0
-IsBad k rest (TooLong n len) = (n ≡ k) × (len ≡ told_len rest) × (4 ≤ length rest) × (8388608 < told_len rest)
+IsBad k rest (TooLong n len) = (n ≡ k) × (len ≡ told_len rest) × (HEAD_BYTES ≤ length rest) × (BODY_BYTES < told_len rest)
 IsBad k rest (NotJson n) = (n ≡ k) × HasBody rest × (¬ (IsJson (body_at rest)))
 IsBad k rest (Shape n) = (n ≡ k) × HasBody rest × IsJson (body_at rest) × ((m : Msg) → ¬ (Spells (body_at rest) m))
 IsBad k rest TooMuch = ⊥
@@ -55,32 +50,30 @@ pub record Breaks (bytes : List ℕ) (ms : List Msg) (fault : WireFault) : Type 
 
 -- byte number 2^40 belongs to no frame
 abbrev pub read_part : List ℕ → List ℕ
-read_part bytes = take (2 ^ 40 - 1) bytes
+read_part bytes = take (INPUT_BYTES - 1) bytes
 
 -- the first fault, and the messages before it
 abbrev pub IsFault : List ℕ → List Msg → WireFault → Type 0
-IsFault bytes ms TooMuch = (2 ^ 40 ≤ length bytes) × ((rest : List ℕ) × Reads (read_part bytes) ms rest)
-IsFault bytes ms (TooLong n len) = Breaks (read_part bytes) ms (TooLong n len)
-IsFault bytes ms (NotJson n) = Breaks (read_part bytes) ms (NotJson n)
-IsFault bytes ms (Shape n) = Breaks (read_part bytes) ms (Shape n)
+IsFault bytes ms TooMuch = (INPUT_BYTES ≤ length bytes) × ((rest : List ℕ) × Reads (read_part bytes) ms rest)
+IsFault bytes ms fault = Breaks (read_part bytes) ms fault
 
 -- what bytes bring: messages, and then a fault or none yet
 abbrev pub Brings : List ℕ → List Msg → Option WireFault → Type 0
-Brings bytes ms None = (length bytes < 2 ^ 40) × ((rest : List ℕ) × Reads bytes ms rest)
+Brings bytes ms None = (length bytes < INPUT_BYTES) × ((rest : List ℕ) × Reads bytes ms rest)
 Brings bytes ms (Some w) = IsFault bytes ms w
 
 -- ---- what a `Frames` stands for
 
-pub record IsOpen (f : Held) (bytes : List ℕ) (ms : List Msg) : Type 0 where
+pub record FramesOpen (f : FramesHeld) (bytes : List ℕ) (ms : List Msg) : Type 0 where
   pub reads : Reads bytes ms f.rest
   pub count : f.count ≡ length ms
   pub seen : f.seen ≡ length bytes
-  pub short : length bytes < 2 ^ 40
+  pub short : length bytes < INPUT_BYTES
 
-abbrev pub StandsBy : Option WireFault → Held → List ℕ → List Msg → Type 0
-StandsBy None f bytes ms = IsOpen f bytes ms
-StandsBy (Some w) f bytes ms = IsFault bytes ms w
+abbrev pub FramesStandBy : Option WireFault → FramesHeld → List ℕ → List Msg → Type 0
+FramesStandBy None f bytes ms = FramesOpen f bytes ms
+FramesStandBy (Some w) f bytes ms = IsFault bytes ms w
 
 -- these bytes so far, with these messages
-abbrev pub Stands : Held → List ℕ → List Msg → Type 0
-Stands f bytes ms = (f.spent ≡ false) × StandsBy f.fault f bytes ms
+abbrev pub FramesStand : FramesHeld → List ℕ → List Msg → Type 0
+FramesStand f bytes ms = (f.spent ≡ false) × FramesStandBy f.fault f bytes ms

@@ -7,9 +7,9 @@ use Rattle.ty_base.specs.declared.entry.Entry.{Entry}
 use Rattle.ty_base.specs.declared.status.Status.{Status}
 use Rattle.ty_base.specs.declared.delta.Kind.TheVariants.{New}
 use Rattle.ty_base.specs.declared.delta.Delta.{Delta}
-use Rattle.ty_wire.specs.Cutting.{cut_deltas}
+use Rattle.ty_wire.specs.Cut.{cut_deltas}
 use Rattle.ty_wire.specs.declared.message.Msg.{Msg}
-use Rattle.ty_wire.specs.declared.message.Msg.TheVariants.{ClientHello, ServerHello, Kvs, Status as StatusMsg, Crumb, Ping, Pong}
+use Rattle.ty_wire.specs.declared.message.Msg.TheVariants.{ServerHello, Kvs, Status as StatusMsg, Crumb, Ping}
 
 -- Groups
 
@@ -21,8 +21,8 @@ status_messages None = []
 status_messages (Some s) = StatusMsg s ∷ []
 
 -- deltas, the status where it is told, and the crumb end
-abbrev pub group : List Delta → Option Status → ℕ → List Msg
-group ds status n = kvs_messages ds ++ (status_messages status ++ Crumb n ∷ [])
+abbrev pub group_messages : List Delta → Option Status → ℕ → List Msg
+group_messages ds status n = kvs_messages ds ++ (status_messages status ++ Crumb n ∷ [])
 
 -- The talk
 
@@ -42,10 +42,10 @@ abbrev pub status_change : Status → Status → Option Status
 status_change a b = cond (same_status a b) None (Some b)
 
 abbrev pub first_group : List Entry → ℕ → List Msg
-first_group entries n = group (snapshot (world_after entries n)) (Some (world_after entries n).status) n
+first_group entries n = group_messages (snapshot (world_after entries n)) (Some (world_after entries n).status) n
 
 abbrev pub group_between : List Entry → ℕ → ℕ → List Msg
-group_between entries from n = group (deltas_between entries from n) (status_change (world_after entries from).status (world_after entries n).status) n
+group_between entries from n = group_messages (deltas_between entries from n) (status_change (world_after entries from).status (world_after entries n).status) n
 
 -- a group for each number, each from the number before
 unfoldable pub groups_after : List Entry → ℕ → List ℕ → List Msg
@@ -62,30 +62,21 @@ talk entries e0 numbers = opening entries e0 ++ groups_after entries e0 numbers
 -- With pings
 
 abbrev pub is_no_ping : Msg → Bool
-is_no_ping (ClientHello version host) = true
-is_no_ping (ServerHello version) = true
-is_no_ping (Kvs ds) = true
-is_no_ping (StatusMsg s) = true
-is_no_ping (Crumb n) = true
 is_no_ping (Ping ts) = false
-is_no_ping (Pong ts) = true
+is_no_ping _ = true
 
 -- a ping's time is a number of 64 bits
 abbrev pub ping_fits : Msg → Bool
-ping_fits (ClientHello version host) = true
-ping_fits (ServerHello version) = true
-ping_fits (Kvs ds) = true
-ping_fits (StatusMsg s) = true
-ping_fits (Crumb n) = true
 ping_fits (Ping ts) = nat_lt ts (2 ^ 64)
-ping_fits (Pong ts) = true
+ping_fits _ = true
 
 -- the numbers rise from the first, and none is past the entries
 abbrev pub Rise : ℕ → List ℕ → ℕ → Type 0
 Rise e0 [] most = e0 ≤ most
 Rise e0 (n ∷ ns) most = (e0 < n) × Rise n ns most
 
--- messages of a talk over these entries, with pings after the first crumb end, between messages or last
+-- messages of a talk over these entries, with pings after the first crumb end, between messages or
+-- last
 pub record IsTalk (entries : List Entry) (e0 : ℕ) (numbers : List ℕ) (ms : List Msg) : Type 0 where
   pub rise : Rise e0 numbers (length entries)
   pub rest : List Msg

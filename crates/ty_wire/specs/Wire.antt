@@ -1,4 +1,5 @@
--- The bytes of a message: its body, which is compact JSON (RFC 8259), behind the body's length as four bytes, highest first.
+-- The bytes of a message: its body, which is compact JSON (RFC 8259), behind the body's length as
+-- four bytes, highest first.
 use Rattle.std.specs.Prelude.{◌≡◌, ℕ, ◌^◌, List, [], ◌∷◌, ◌++◌, length, flat_map, codes, decimal, Bool, true, ◌&&◌, nat_lt, nat_le, Option, None, Some, ⊤}
 use Rattle.std.specs.List.{AllByRecursion}
 use Rattle.std.specs.Str.{IsUtf8}
@@ -10,7 +11,8 @@ use Rattle.ty_base.specs.Statuses.{status_text}
 use Rattle.ty_base.specs.declared.delta.Kind.{Kind}
 use Rattle.ty_base.specs.declared.delta.Kind.TheVariants.{New, Updated, Deleted}
 use Rattle.ty_base.specs.declared.delta.Delta.{Delta}
-use Rattle.ty_wire.specs.Limits.{within_limits}
+use Rattle.ty_base.specs.Limits.{deltas_fit}
+use Rattle.ty_base.specs.declared.limits.TheConstants.{BODY_BYTES, MESSAGE_DELTAS}
 use Rattle.ty_wire.specs.declared.message.Msg.{Msg}
 use Rattle.ty_wire.specs.declared.message.Msg.TheVariants.{ClientHello, ServerHello, Kvs, Status as StatusMsg, Crumb, Ping, Pong}
 
@@ -53,14 +55,14 @@ frames ms = flat_map frame ms
 abbrev pub parts_fit : Msg → Bool
 parts_fit (ClientHello version host) = nat_lt version (2 ^ 64)
 parts_fit (ServerHello version) = nat_lt version (2 ^ 64)
-parts_fit (Kvs ds) = nat_lt 0 (length ds) && nat_le (length ds) 100 && within_limits ds
+parts_fit (Kvs ds) = nat_lt 0 (length ds) && nat_le (length ds) MESSAGE_DELTAS && deltas_fit ds
 parts_fit (StatusMsg s) = true
 parts_fit (Crumb n) = nat_lt n (2 ^ 64)
 parts_fit (Ping ts) = nat_lt ts (2 ^ 64)
 parts_fit (Pong ts) = nat_lt ts (2 ^ 64)
 
 abbrev pub message_fits : Msg → Bool
-message_fits m = parts_fit m && nat_le (length (body m)) 8388608
+message_fits m = parts_fit m && nat_le (length (body m)) BODY_BYTES
 
 -- a JSON text that `serde_json` reads
 abbrev pub IsJson : List ℕ → Type 0
@@ -87,9 +89,5 @@ DeltaHasUtf8 d = IsUtf8 d.key × ValueHasUtf8 d.value
 
 abbrev pub HasUtf8 : Msg → Type 0
 HasUtf8 (ClientHello version host) = IsUtf8 host
-HasUtf8 (ServerHello version) = ⊤
 HasUtf8 (Kvs ds) = AllByRecursion DeltaHasUtf8 ds
-HasUtf8 (StatusMsg s) = ⊤
-HasUtf8 (Crumb n) = ⊤
-HasUtf8 (Ping ts) = ⊤
-HasUtf8 (Pong ts) = ⊤
+HasUtf8 _ = ⊤

@@ -10,7 +10,7 @@ pub enum Msg {
     ClientHello { version: u64, host: Text },
     /// The server's first message.
     ServerHello { version: u64 },
-    /// Changes at keys, 1 to 100 of them.
+    /// Changes at keys, 1 to `MESSAGE_DELTAS` of them.
     Kvs(Deltas),
     /// The datastore's status from here on.
     Status(Status),

@@ -59,8 +59,8 @@ fn samples(alloc: Global) -> Result<Msgs, NoMemory> {
     let two = kvs(
         alloc,
         &[
-            ("/calico/v1/config/a", Kind::New, "\"2\""),
-            ("/calico/v1/config/b", Kind::New, "\"1\""),
+            ("/calico/v1/config/a", Kind::New, r#""2""#),
+            ("/calico/v1/config/b", Kind::New, r#""1""#),
         ],
     )?;
     msgs.push(two)?;
@@ -84,26 +84,26 @@ fn samples(alloc: Global) -> Result<Msgs, NoMemory> {
 fn bodies_and_their_lengths(rt: HostRuntime) -> Result<(), Fail> {
     let alloc = rt.alloc();
     let bodies: [(&str, usize); 11] = [
-        ("{\"m\":\"server_hello\",\"version\":1}", 32),
-        ("{\"m\":\"status\",\"status\":\"wait-for-ready\"}", 40),
-        ("{\"m\":\"crumb\",\"n\":0}", 19),
+        (r#"{"m":"server_hello","version":1}"#, 32),
+        (r#"{"m":"status","status":"wait-for-ready"}"#, 40),
+        (r#"{"m":"crumb","n":0}"#, 19),
         (
-            "{\"kvs\":[{\"key\":\"/calico/v1/Ready\",\"type\":\"new\",\"value\":\"true\"}],\"m\":\"kvs\"}",
+            r#"{"kvs":[{"key":"/calico/v1/Ready","type":"new","value":"true"}],"m":"kvs"}"#,
             74,
         ),
-        ("{\"m\":\"status\",\"status\":\"in-sync\"}", 33),
+        (r#"{"m":"status","status":"in-sync"}"#, 33),
         (
-            "{\"kvs\":[{\"key\":\"/calico/v1/config/a\",\"type\":\"new\",\"value\":\"\\\"2\\\"\"},{\"key\":\"/calico/v1/config/b\",\"type\":\"new\",\"value\":\"\\\"1\\\"\"}],\"m\":\"kvs\"}",
+            r#"{"kvs":[{"key":"/calico/v1/config/a","type":"new","value":"\"2\""},{"key":"/calico/v1/config/b","type":"new","value":"\"1\""}],"m":"kvs"}"#,
             137,
         ),
-        ("{\"host\":\"n1\",\"m\":\"client_hello\",\"version\":1}", 44),
+        (r#"{"host":"n1","m":"client_hello","version":1}"#, 44),
         (
             "{\"kvs\":[{\"key\":\"k\\u0001\\u001f\u{7f}é\",\"type\":\"updated\",\"value\":\"\\\\\\b\\f\\n\\r\\t/\"},{\"key\":\"k\",\"type\":\"deleted\"}],\"m\":\"kvs\"}",
             116,
         ),
-        ("{\"m\":\"status\",\"status\":\"resync\"}", 32),
-        ("{\"m\":\"ping\",\"ts\":18446744073709551615}", 38),
-        ("{\"m\":\"pong\",\"ts\":10000}", 23),
+        (r#"{"m":"status","status":"resync"}"#, 32),
+        (r#"{"m":"ping","ts":18446744073709551615}"#, 38),
+        (r#"{"m":"pong","ts":10000}"#, 23),
     ];
     let msgs = samples(alloc)?;
     assert_eq!(rt; msgs.len(), bodies.len());
@@ -145,7 +145,7 @@ fn any_pieces_bring_the_same(rt: HostRuntime) -> Result<(), Fail> {
         again.extend_from_slice(&written(alloc, got.msgs.as_slice())?)?;
     }
     assert_eq!(rt; again.as_slice(), bytes.as_slice());
-    let crumb = framed(alloc, &[b"{\"m\":\"crumb\",\"n\":1}".as_slice()])?;
+    let crumb = framed(alloc, &[br#"{"m":"crumb","n":1}"#.as_slice()])?;
     let mut frames = Frames::new(alloc);
     for (i, byte) in crumb.chunks(1).enumerate() {
         let got = frames.feed(alloc, byte)?;
@@ -156,7 +156,7 @@ fn any_pieces_bring_the_same(rt: HostRuntime) -> Result<(), Fail> {
 
 // What a second frame with this body brings, behind a ping.
 fn fault_of(alloc: Global, body: &[u8]) -> Result<(usize, Option<WireFault>), NoMemory> {
-    let bytes = framed(alloc, &[b"{\"m\":\"ping\",\"ts\":1}".as_slice(), body])?;
+    let bytes = framed(alloc, &[br#"{"m":"ping","ts":1}"#.as_slice(), body])?;
     let mut frames = Frames::new(alloc);
     let mut count = 0usize;
     let mut fault = None;
@@ -186,11 +186,11 @@ fn hurt_bodies(rt: HostRuntime) -> Result<(), Fail> {
         b"",
         b"oops",
         b"01",
-        b"{\"m\":\"crumb\",\"n\":01}",
+        br#"{"m":"crumb","n":01}"#,
         b"{\"m\":\"\xff\"}",
-        b"\"\\ud800\"",
-        b"{\"m\":\"ping\",\"ts\":1}x",
-        b"{\"m\":\"ping\",\"ts\":1",
+        br#""\ud800""#,
+        br#"{"m":"ping","ts":1}x"#,
+        br#"{"m":"ping","ts":1"#,
     ];
     for body in not_json {
         assert_eq!(rt;
@@ -202,21 +202,21 @@ fn hurt_bodies(rt: HostRuntime) -> Result<(), Fail> {
     let shape: [&[u8]; 17] = [
         b"{}",
         b"7",
-        b"{\"n\":1,\"m\":\"crumb\"}",
-        b"{\"m\":\"crumb\",\"n\":1.0}",
-        b"{\"m\":\"crumb\",\"n\":-1}",
-        b"{\"m\":\"ping\",\"ts\":18446744073709551616}",
-        b"{\"m\":\"ping\",\"ts\":1} ",
-        b"{\"m\":\"ping\",\"m\":\"ping\",\"ts\":1}",
-        b"{\"m\":\"ping\",\"ts\":1,\"x\":1}",
-        b"{\"m\":\"status\",\"status\":\"ready\"}",
-        b"{\"host\":\"\\u0041\",\"m\":\"client_hello\",\"version\":1}",
-        b"{\"host\":\"\\/\",\"m\":\"client_hello\",\"version\":1}",
-        b"{\"host\":\"\\u001F\",\"m\":\"client_hello\",\"version\":1}",
-        b"{\"kvs\":[],\"m\":\"kvs\"}",
-        b"{\"kvs\":[{\"key\":\"k\",\"type\":\"new\"}],\"m\":\"kvs\"}",
-        b"{\"kvs\":[{\"key\":\"k\",\"type\":\"deleted\",\"value\":\"\"}],\"m\":\"kvs\"}",
-        b"{\"kvs\":[{\"key\":\"k\",\"type\":\"old\",\"value\":\"\"}],\"m\":\"kvs\"}",
+        br#"{"n":1,"m":"crumb"}"#,
+        br#"{"m":"crumb","n":1.0}"#,
+        br#"{"m":"crumb","n":-1}"#,
+        br#"{"m":"ping","ts":18446744073709551616}"#,
+        br#"{"m":"ping","ts":1} "#,
+        br#"{"m":"ping","m":"ping","ts":1}"#,
+        br#"{"m":"ping","ts":1,"x":1}"#,
+        br#"{"m":"status","status":"ready"}"#,
+        br#"{"host":"\u0041","m":"client_hello","version":1}"#,
+        br#"{"host":"\/","m":"client_hello","version":1}"#,
+        br#"{"host":"\u001F","m":"client_hello","version":1}"#,
+        br#"{"kvs":[],"m":"kvs"}"#,
+        br#"{"kvs":[{"key":"k","type":"new"}],"m":"kvs"}"#,
+        br#"{"kvs":[{"key":"k","type":"deleted","value":""}],"m":"kvs"}"#,
+        br#"{"kvs":[{"key":"k","type":"old","value":""}],"m":"kvs"}"#,
     ];
     for body in shape {
         assert_eq!(rt;

@@ -12,9 +12,7 @@ pub struct OsSource<R> {
 }
 
 impl<R: Read> Source for OsSource<R> {
-    ghost left = { λ _. None };
-
-    ghost count = { λ s. s.count };
+    ghost seen = { λ s. record { left = None; faults = s.count } };
 
     fn take(&mut self, buf: &mut [u8]) -> Result<usize, Failed> {
         match self.reader.read(buf) {
@@ -39,9 +37,7 @@ pub struct OsSink<W> {
 }
 
 impl<W: Write> Sink for OsSink<W> {
-    ghost held = { λ _. None };
-
-    ghost count = { λ s. s.count };
+    ghost seen = { λ s. record { held = None; faults = s.count } };
 
     fn give(&mut self, piece: &[u8]) -> Result<usize, Failed> {
         match self.writer.write(piece) {

@@ -1,7 +1,7 @@
 // The program that reads piece by piece against the one that folds the whole list.
 ghost use Rattle.std.specs.Prelude.{◌≡◌};
 ghost use Rattle.ty_base.specs.Passing.{item_passes};
-ghost use Rattle.ty_crumb.specs.Limits.{key_fits, value_fits, items_fit};
+ghost use Rattle.ty_base.specs.Limits.{key_fits, value_fits, items_fit};
 
 use crate::plain_stream;
 use crate::tests::feeds::{A, A_TWO, B, BAD_ENDPOINT, ENDPOINT, NO_A, lines_up_to};

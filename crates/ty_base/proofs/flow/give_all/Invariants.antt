@@ -5,8 +5,8 @@ use Rattle.ty_base.proofs.flow.give_all.Given as goal
 abbrev pub invariant-loop-at : goal.invariant-loop-at
 invariant-loop-at g l = record {
   within : l.at ≤ length l.bytes;
-  given : Appends (g.K.Sink.held l.fn.sink) (g.K.Sink.held l.sink) (take l.at l.bytes);
-  later : g.K.Sink.count l.fn.sink ≤ g.K.Sink.count l.sink;
+  given : Appends (g.K.Sink.seen l.fn.sink).held (g.K.Sink.seen l.sink).held (take l.at l.bytes);
+  later : (g.K.Sink.seen l.fn.sink).faults ≤ (g.K.Sink.seen l.sink).faults;
 }
 
 abbrev pub decreases-loop-at : goal.decreases-loop-at

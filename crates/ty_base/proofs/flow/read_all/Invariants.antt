@@ -6,8 +6,8 @@ abbrev pub invariant-loop-all : goal.invariant-loop-all
 invariant-loop-all g l = record {
   within : length l.all.items ≤ 2 ^ 40;
   piece : length l.piece.items ≡ 65536;
-  taken : Consumes (g.S.Source.left l.fn.source) (g.S.Source.left l.source) l.all.items;
-  later : g.S.Source.count l.fn.source ≤ g.S.Source.count l.source;
+  taken : Consumes (g.S.Source.seen l.fn.source).left (g.S.Source.seen l.source).left l.all.items;
+  later : (g.S.Source.seen l.fn.source).faults ≤ (g.S.Source.seen l.source).faults;
 }
 
 abbrev pub decreases-loop-all : goal.decreases-loop-all

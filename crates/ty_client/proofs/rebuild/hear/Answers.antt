@@ -4,7 +4,7 @@ use Rattle.std.specs.List.{AllByRecursion}
 use Rattle.ty_wire.specs.Wire.{IsWire}
 use Rattle.ty_wire.specs.declared.message.Msg.{Msg}
 use Rattle.ty_client.specs.declared.fault.StreamFault.{StreamFault}
-use Rattle.ty_client.specs.Steps.{IsHeard, IsJudged}
+use Rattle.ty_client.specs.steps.Stage.{IsHeard, IsJudged}
 use Rattle.ty_client.proofs.Connections.{history_wire, heard_on}
 use Rattle.ty_client.proofs.rebuild.hear.Goals as goal
 

@@ -1,8 +1,8 @@
 use Rattle.std.proofs.Common.{ap, sym, ◌∙◌, [], ◌∷◌, ◌++◌, append-nil, append_assoc}
 use Rattle.ty_base.proofs.Passing.{left}
-use Rattle.ty_crumb.specs.Limits.{key_fits, value_fits, pairs_fit, deltas_fit}
+use Rattle.ty_base.specs.Limits.{key_fits, value_fits, pairs_fit, deltas_fit}
 use Rattle.ty_crumb.specs.Crumbs.{snapshot_of}
-use Rattle.ty_crumb.proofs.Fits.{snapshot_passes}
+use Rattle.ty_crumb.proofs.Limits.{snapshot_passes}
 use Rattle.ty_crumb.proofs.snapshots.snapshot.Goals as goal
 
 pub returns-clause-within : goal.returns-clause-within

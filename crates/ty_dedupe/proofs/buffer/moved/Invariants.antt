@@ -1,6 +1,6 @@
 use Rattle.std.proofs.Common.{◌≡◌, ◌++◌, ◌+◌, ◌≤◌, map, length, vec_len}
 use Rattle.std.specs.Prelude.{vec_capacity}
-use Rattle.ty_dedupe.specs.Entries.{shown}
+use Rattle.ty_dedupe.specs.Pending.{shown}
 use Rattle.ty_dedupe.proofs.buffer.moved.Given as goal
 
 abbrev pub invariant-loop-key : goal.invariant-loop-key

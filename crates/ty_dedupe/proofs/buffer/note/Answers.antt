@@ -1,8 +1,8 @@
 use Rattle.std.proofs.Common.{map, ap, ◌∙◌}
 use Rattle.std.specs.Str.{bytes_eq}
 use Rattle.indexmap.specs.IndexMap.{insert_entry}
-use Rattle.ty_dedupe.specs.Entries.{shown}
-use Rattle.ty_dedupe.proofs.Changed.{shown_insert}
+use Rattle.ty_dedupe.specs.Pending.{shown}
+use Rattle.ty_dedupe.proofs.Pending.{shown_insert}
 use Rattle.ty_dedupe.proofs.buffer.note.Goals as goal
 
 pub returns-clause-ok : goal.returns-clause-ok

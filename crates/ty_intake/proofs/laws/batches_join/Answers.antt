@@ -1,4 +1,4 @@
-use Rattle.ty_intake.proofs.Joining.{few-of, joined-of, whole-of, none-of}
+use Rattle.ty_intake.proofs.JoinedBatches.{few-of, joined-of, whole-of, none-of}
 use Rattle.ty_intake.proofs.laws.batches_join.Goals as goal
 
 pub returns : goal.returns

@@ -1,4 +1,4 @@
-use Rattle.ty_intake.proofs.Cutting.{cut-ended, cut-rest}
+use Rattle.ty_intake.proofs.Lines.{cut-ended, cut-rest}
 use Rattle.ty_intake.proofs.laws.lines_are_cut.Goals as goal
 
 pub returns : goal.returns

@@ -2,7 +2,7 @@ use Rattle.std.proofs.Common.{subst, ◌≡◌, option_map}
 use Rattle.std.specs.Prelude.{IfOk, Option}
 use Rattle.serde_json.specs.View.{view}
 use Rattle.ty_values.specs.Items.{Said, said}
-use Rattle.ty_intake.proofs.Telling.{json-read, json-unread}
+use Rattle.ty_intake.proofs.LineFaults.{json-read, json-unread}
 use Rattle.ty_intake.proofs.line.json_line.Goals as goal
 
 pub returns-in-Ok : goal.returns-in-Ok

@@ -1,8 +1,8 @@
 use Rattle.std.proofs.Common.{◌≡◌, suc, take, drop, arith, add-one}
 use Rattle.std.proofs.lemmas.List.{take_rest}
 use Rattle.ty_intake.specs.Lines.{cut_lines}
-use Rattle.ty_intake.specs.Steps.{line_then}
-use Rattle.ty_intake.proofs.Cutting.{cut-found, cut-all}
+use Rattle.ty_intake.specs.steps.Progress.{line_then}
+use Rattle.ty_intake.proofs.Lines.{cut-found, cut-all}
 use Rattle.ty_intake.proofs.pieces.split_line.Goals as goal
 
 pub returns-in-Some-clause-line : goal.returns-in-Some-clause-line

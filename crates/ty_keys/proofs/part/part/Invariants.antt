@@ -1,6 +1,6 @@
 use Rattle.std.proofs.Common.{◌≡◌, ◌++◌, length, string_bytes}
 use Rattle.ty_keys.specs.Faults.{byte_fault}
-use Rattle.ty_keys.specs.Reading.{unescaped}
+use Rattle.ty_keys.specs.Forms.{unescaped}
 use Rattle.ty_keys.proofs.part.part.Given as goal
 
 abbrev pub invariant-loop-rest : goal.invariant-loop-rest

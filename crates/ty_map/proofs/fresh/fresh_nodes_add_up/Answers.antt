@@ -1,4 +1,4 @@
-use Rattle.ty_map.proofs.Between.{adds_up}
+use Rattle.ty_map.proofs.FreshSums.{adds_up}
 use Rattle.ty_map.proofs.fresh.fresh_nodes_add_up.Goals as goal
 
 pub returns : goal.returns

@@ -1,14 +1,15 @@
 use Rattle.std.proofs.Common.{◌≡◌, ◌+◌, ◌++◌, ◌∷◌, max, length, length-append, arith, ap, sym, subst, ◌∙◌}
 use Rattle.ty_map.specs.Shape.{pairs, height, IsBalanced}
-use Rattle.ty_map.specs.Nodes.{entry, IsSound}
-use Rattle.ty_map.proofs.Low.{root_is_balanced}
+use Rattle.ty_map.specs.Nodes.{pair_of}
+use Rattle.ty_map.specs.steps.Tree.{IsSound}
+use Rattle.ty_map.proofs.Heights.{root_is_balanced}
 use Rattle.ty_map.proofs.tree.join.Goals as goal
 
 pub invariant_of-result : goal.invariant_of-result
 invariant_of-result c =
     let l = c.args.left in
     let r = c.args.right in
-    let e = entry c.args.pair.value in
+    let e = pair_of c.args.pair.value in
     let left_high = c.height.ensures.value in
     let right_high = c.height-2.ensures.value in
     let high : c.max-below.result + 1 ≡ max (height l) (height r) + 1 = ap (λ x. x + 1) c.max-below.ensures ∙ (λ i. max (left_high i) (right_high i) + 1) in

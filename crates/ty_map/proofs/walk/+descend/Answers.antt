@@ -1,7 +1,8 @@
 use Rattle.std.proofs.Common.{◌≡◌, ◌+◌, ◌≤◌, ◌<◌, ◌∷◌, length, vec_len, arith, ap, sym, ◌∙◌, subst}
 use Rattle.std.specs.Prelude.{vec_capacity}
 use Rattle.ty_map.specs.Shape.{height}
-use Rattle.ty_map.specs.Stack.{stacked, HasRoom}
+use Rattle.ty_map.specs.Stack.{stacked}
+use Rattle.ty_map.specs.steps.Stack.{HasRoom}
 use Rattle.ty_map.proofs.Stack.{stacked_push, length-stacked, more_room}
 use Rattle.ty_map.proofs.walk.+descend.Goals as goal
 

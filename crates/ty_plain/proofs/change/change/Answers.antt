@@ -2,7 +2,7 @@ use Rattle.std.proofs.Common.{◌∙◌, ap, sym, cond}
 use Rattle.std.specs.Prelude.{None, Some}
 use Rattle.std.specs.Option.{option_copied}
 use Rattle.ty_base.specs.Feed as feed
-use Rattle.ty_plain.specs.Scans.{updated}
+use Rattle.ty_plain.specs.steps.Scans.{updated}
 use Rattle.ty_plain.proofs.change.change.Goals as goal
 
 pub returns-in_ok-added-in-None-Some : goal.returns-in_ok-added-in-None-Some

@@ -1,6 +1,6 @@
 use Rattle.std.proofs.Common.{arith, ◌≡◌, ◌+◌, ◌++◌, ◌∷◌, [], drop, get_or, ap, sym, ◌∙◌}
 use Rattle.ty_base.specs.Feed as feed
-use Rattle.ty_plain.proofs.Compare.{cut_taken, cut_passed, at_more}
+use Rattle.ty_plain.proofs.Worlds.{cut_taken, cut_passed, at_more}
 use Rattle.ty_plain.proofs.cut.cuts_among.Goals as goal
 use Rattle.ty_plain.proofs.cut.cuts_among.Goals.{then-not-same_worlds+in_ok-push, else-not-same_worlds}
 

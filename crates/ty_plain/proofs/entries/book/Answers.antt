@@ -2,13 +2,13 @@ use Rattle.std.proofs.Common.{◌≡◌, ◌∙◌, List, ℕ, ap, sym, subst, a
 use Rattle.std.specs.List.{range_with_len}
 use Rattle.ty_base.specs.Feed as feed
 use Rattle.ty_base.specs.Feed.{cuts, book}
-use Rattle.ty_plain.specs.Scans.{IsRising}
+use Rattle.ty_plain.specs.steps.Scans.{NeverFall}
 use Rattle.ty_plain.proofs.Books.{closings_rise, here_within, last_within, next_entry, book_step, next_last}
 use Rattle.ty_plain.proofs.entries.book.Goals as goal
 
 pub cuts_among-requires : goal.cuts_among-requires
 unfolding cuts book
-cuts_among-requires c = subst (λ (ps : List ℕ). IsRising 0 (length c.args.items.now) ps) (sym (c.deref.ensures.value ∙ c.in_ok-closings.ensures)) (closings_rise c.args.ended c.args.items.now)
+cuts_among-requires c = subst (λ (ps : List ℕ). NeverFall 0 (length c.args.items.now) ps) (sym (c.deref.ensures.value ∙ c.in_ok-closings.ensures)) (closings_rise c.args.ended c.args.items.now)
 
 pub entry-requires-clause-last : goal.entry-requires-clause-last
 unfolding cuts book

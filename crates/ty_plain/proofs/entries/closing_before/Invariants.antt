@@ -1,5 +1,5 @@
 use Rattle.std.proofs.Common.{◌≡◌, ◌≤◌, take}
-use Rattle.ty_plain.specs.Scans.{last_before}
+use Rattle.ty_plain.specs.steps.Scans.{last_before}
 use Rattle.ty_plain.proofs.entries.closing_before.Given as goal
 
 abbrev pub invariant-loop-p : goal.invariant-loop-p

@@ -4,8 +4,8 @@ use Rattle.ty_base.specs.Feed as feed
 use Rattle.ty_base.proofs.Pairs.{in_order-after}
 use Rattle.ty_base.proofs.Replay.{world_between}
 use Rattle.ty_base.specs.Statuses.{same_status}
-use Rattle.ty_plain.specs.Scans.{agrees}
-use Rattle.ty_plain.proofs.Compare.{worlds_compare}
+use Rattle.ty_plain.specs.steps.Scans.{agrees}
+use Rattle.ty_plain.proofs.Worlds.{worlds_compare}
 use Rattle.ty_plain.proofs.world.same_worlds.Goals as goal
 
 pub returns-then-same_status : goal.returns-then-same_status

@@ -4,7 +4,7 @@ use Rattle.std.specs.Map.{keys_of}
 use Rattle.serde_json.specs.View.{view, members_view}
 use Rattle.serde_json.specs.Written.{has_float, members_have_float}
 use Rattle.serde_json.proofs.Views.{Entry}
-use Rattle.ty_rules.specs.Ascending.{Ascends, MembersAscend}
+use Rattle.ty_rules.specs.Tree.{Ascends, MembersAscend}
 use Rattle.ty_rules.proofs.Below.{Below-from_keys}
 use Rattle.ty_rules.proofs.tree.+floats.Goals as goal
 

@@ -3,7 +3,7 @@ use Rattle.std.specs.List.Sorted.{IsStrictlySortedBy}
 use Rattle.std.specs.Map.{keys_of}
 use Rattle.serde_json.specs.View.{items_view, members_view}
 use Rattle.serde_json.specs.Written.{items_have_float, members_have_float}
-use Rattle.ty_rules.specs.Ascending.{ItemsAscend, MembersAscend}
+use Rattle.ty_rules.specs.Tree.{ItemsAscend, MembersAscend}
 use Rattle.ty_rules.proofs.tree.+floats.Given as goal
 
 -- the items that are left have the answer of all

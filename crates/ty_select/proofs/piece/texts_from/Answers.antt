@@ -3,7 +3,7 @@ use Rattle.std.proofs.lemmas.Result.{err_from_is_err_and}
 use Rattle.ty_select.specs.declared.fault.Wanted.TheVariants.{CommaOrBrace}
 use Rattle.ty_select.specs.declared.token.Kind.TheVariants.{RightBrace, Comma}
 use Rattle.ty_select.specs.Tokens.{same_kind}
-use Rattle.ty_select.specs.Reading.{texts_from}
+use Rattle.ty_select.specs.Expressions.{texts_from}
 use Rattle.ty_select.proofs.Loops.{texts_end, texts_bad, texts_go_on, texts_stop, texts_run_out, bad_at}
 use Rattle.ty_select.proofs.piece.texts_from.Goals as goal
 

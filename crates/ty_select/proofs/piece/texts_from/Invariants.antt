@@ -1,5 +1,5 @@
 use Rattle.std.proofs.Common.{◌≡◌, ◌-◌}
-use Rattle.ty_select.specs.Reading.{more_texts, texts_from}
+use Rattle.ty_select.specs.Expressions.{more_texts, texts_from}
 use Rattle.ty_select.proofs.Loops.{with_front}
 use Rattle.ty_select.proofs.piece.texts_from.Given as goal
 

@@ -1,6 +1,6 @@
 use Rattle.std.proofs.Common.{sym, ◌∙◌}
 use Rattle.ty_select.specs.declared.token.Kind.TheVariants.{Quoted}
-use Rattle.ty_select.proofs.Lexing.{quoted_found, quoted_other}
+use Rattle.ty_select.proofs.Tokens.{quoted_found, quoted_other}
 use Rattle.ty_select.proofs.token.quoted_at.Goals as goal
 
 pub returns-in_default : goal.returns-in_default

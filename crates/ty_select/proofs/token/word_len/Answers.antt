@@ -1,6 +1,6 @@
 use Rattle.std.proofs.Common.{sym, arith, rules}
 use Rattle.std.proofs.lemmas.List.Sums.{prefix_len_is}
-use Rattle.ty_select.specs.Tokens.{is_word_byte}
+use Rattle.ty_select.specs.Words.{is_word_byte}
 use Rattle.ty_select.proofs.token.word_len.Goals as goal
 
 pub returns-then-not-is_word_byte : goal.returns-then-not-is_word_byte

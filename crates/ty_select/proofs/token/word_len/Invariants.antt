@@ -1,5 +1,5 @@
 use Rattle.std.proofs.Common.{◌≡◌, ℕ, ◌<◌, true, get_or}
-use Rattle.ty_select.specs.Tokens.{is_word_byte}
+use Rattle.ty_select.specs.Words.{is_word_byte}
 use Rattle.ty_select.proofs.token.word_len.Given as goal
 
 abbrev pub invariant-loop-byte : goal.invariant-loop-byte

@@ -1,4 +1,4 @@
-use Rattle.ty_top.proofs.Followings.{told, good, uncut}
+use Rattle.ty_top.proofs.FollowedStreams.{told, good, uncut}
 use Rattle.ty_top.proofs.laws.followed_streams_tell_every_world.Goals as goal
 
 pub returns : goal.returns

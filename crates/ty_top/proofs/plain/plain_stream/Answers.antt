@@ -2,7 +2,7 @@ use Rattle.std.proofs.Common.{◌≡◌, [], ◌++◌, ◌∙◌, ap, sym, subst
 use Rattle.std.specs.List.{All, range_with_len}
 use Rattle.ty_base.specs.declared.entry.Entry.{Entry}
 use Rattle.ty_base.specs.Feed.{book}
-use Rattle.ty_wire.specs.Limits.{IsWithinLimits}
+use Rattle.ty_base.specs.Limits.{deltas_fit}
 use Rattle.ty_wire.specs.Wire.{frames}
 use Rattle.ty_wire.specs.Talk.{opening, groups_after}
 use Rattle.ty_top.proofs.Books.{streamed_whole}
@@ -11,7 +11,7 @@ use Rattle.ty_top.proofs.plain.plain_stream.Goals as goal
 
 pub write_entries-requires : goal.write_entries-requires
 write_entries-requires c =
-    let P : List Entry → Type 0 = λ es. All (λ e. IsWithinLimits e.deltas) es in
+    let P : List Entry → Type 0 = λ es. All (λ e. deltas_fit e.deltas ≡ true) es in
     subst P (sym (c.deref.ensures.value ∙ c.in_ok-book.ensures)) (book_within c.args.items.now c.requires)
 
 pub returns : goal.returns

@@ -1,14 +1,18 @@
-use Rattle.ty_top.proofs.Ends.{followed_only, cut_only, unwritten_only, line_only}
+use Rattle.ty_top.proofs.Complete.{done_whole, refused, refuses, read_failed, write_failed}
 use Rattle.ty_top.proofs.top.local.Goals as goal
 
-pub returns-clause-followed : goal.returns-clause-followed
-returns-clause-followed g c = λ brief e s. followed_only brief c.run-ending.result _ _ c.status.result (c.run-ending.ensures.follows brief e) c.status.ensures.exact s
+pub returns-clause-usage : goal.returns-clause-usage
+returns-clause-usage g c = (
+  refused c.status.result _ _ _ c.run-ending.result c.status.ensures c.run-ending.ensures.came,
+  refuses c.status.result _ _ _ c.run-ending.result c.status.ensures c.run-ending.ensures.came,
+)
 
-pub returns-clause-cut : goal.returns-clause-cut
-returns-clause-cut g c = λ brief e s. cut_only brief c.run-ending.result _ _ c.status.result (c.run-ending.ensures.follows brief e) c.status.ensures.exact s
+pub returns-clause-read : goal.returns-clause-read
+returns-clause-read g c = read_failed c.status.result _ _ _ c.run-ending.result c.status.ensures c.run-ending.ensures.came
 
-pub returns-clause-follow_unwritten : goal.returns-clause-follow_unwritten
-returns-clause-follow_unwritten g c = λ brief e s. unwritten_only brief c.run-ending.result _ _ c.status.result (c.run-ending.ensures.follows brief e) c.status.ensures.exact s
+pub returns-clause-write : goal.returns-clause-write
+returns-clause-write g c = write_failed c.status.result _ _ _ c.run-ending.result c.status.ensures c.run-ending.ensures.came
 
-pub returns-clause-line : goal.returns-clause-line
-returns-clause-line g c = λ j e s. line_only j c.run-ending.result _ _ c.status.result (c.run-ending.ensures.streams j e) c.status.ensures.exact s
+pub returns-clause-complete : goal.returns-clause-complete
+returns-clause-complete g c = λ command bytes asked known good read_well written_well.
+    done_whole c.status.result _ _ _ command c.run-ending.result bytes c.status.ensures c.run-ending.ensures.came asked known good read_well written_well

@@ -1,4 +1,4 @@
-use Rattle.ty_wire.proofs.Talking.{talk-wire, talk-with-pings}
+use Rattle.ty_wire.proofs.Talk.{talk-wire, talk-with-pings}
 use Rattle.ty_wire.proofs.laws.talks_have_frames.Goals as goal
 
 pub returns : goal.returns

@@ -1,6 +1,5 @@
 use Rattle.std.proofs.Common.{map, ap}
-use Rattle.ty_dedupe.specs.Pending.{pending, last_status}
-use Rattle.ty_dedupe.specs.Entries.{shown}
+use Rattle.ty_dedupe.specs.Pending.{pending, last_status, shown}
 use Rattle.ty_dedupe.proofs.buffer.Buffer.drain.Goals as goal
 
 pub returns-clause-emptied : goal.returns-clause-emptied

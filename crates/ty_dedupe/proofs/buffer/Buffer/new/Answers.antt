@@ -1,6 +1,5 @@
 use Rattle.std.proofs.Common.{map, ap, refl}
-use Rattle.ty_dedupe.specs.Pending.{pending, last_status}
-use Rattle.ty_dedupe.specs.Entries.{shown}
+use Rattle.ty_dedupe.specs.Pending.{pending, last_status, shown}
 use Rattle.ty_dedupe.proofs.buffer.Buffer.new.Goals as goal
 
 pub returns : goal.returns

@@ -2,7 +2,7 @@ use Rattle.std.proofs.Common.{ap, sym, refl, ◌∙◌, ◌++◌, ◌∷◌, []}
 use Rattle.std.specs.Prelude.{Some, None}
 use Rattle.ty_base.specs.declared.item.Item.TheVariants.{Put, Del, State, Mark}
 use Rattle.ty_dedupe.specs.Pending.{last_status}
-use Rattle.ty_dedupe.proofs.Changed.{pairs_more, pairs_kept, status_kept, new_status}
+use Rattle.ty_dedupe.proofs.Pending.{pairs_more, pairs_kept, status_kept, new_status}
 use Rattle.ty_dedupe.proofs.buffer.Buffer.put.Goals as goal
 
 pub returns-in_ok-note-in-Put-clause-ok : goal.returns-in_ok-note-in-Put-clause-ok

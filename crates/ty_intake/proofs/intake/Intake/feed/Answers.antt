@@ -1,19 +1,19 @@
 use Rattle.std.proofs.Common.{◌≡◌, ◌∙◌, ◌||◌, ◌++◌, true, ap, sym, List}
 use Rattle.std.specs.Prelude.{is_some}
-use Rattle.ty_intake.specs.Standing.{Held}
+use Rattle.ty_intake.specs.Held.{IntakeHeld}
 use Rattle.ty_intake.specs.Batches.{batches_of}
 use Rattle.ty_intake.specs.declared.batch.Closed.{Closed}
-use Rattle.ty_intake.proofs.Resting.{fed-done, or-left, or-last}
+use Rattle.ty_intake.proofs.StoppedFeeds.{fed-done, or-left, or-last}
 use Rattle.ty_intake.proofs.intake.Intake.feed.Goals.{then-self-2-via-then-self-2, then-self-2-via-else-self-2+then-is_some}
 use Rattle.ty_intake.proofs.intake.Intake.feed.Goals as goal
 
 -- the feed has ended, or has a fault
 done : (c : goal.After-nothing) → (c.args.self.now.ended || is_some c.args.self.now.fault) ≡ true
 done c =
-    let v : Held = c.args.self.now in
+    let v : IntakeHeld = c.args.self.now in
     elim c.then-self-2.branch [
-      | then-self-2-via-then-self-2 w ↦ or-left v.ended (is_some v.fault) (sym (ap (λ (k : Held). k.ended) c.self.view_is) ∙ w.if-self-2.true)
-      | then-self-2-via-else-self-2+then-is_some w ↦ or-last v.ended (is_some v.fault) (sym (w.if-is_some.ensures ∙ ap (λ (k : Held). is_some k.fault) c.self.view_is))
+      | then-self-2-via-then-self-2 w ↦ or-left v.ended (is_some v.fault) (sym (ap (λ (k : IntakeHeld). k.ended) c.self.view_is) ∙ w.if-self-2.true)
+      | then-self-2-via-else-self-2+then-is_some w ↦ or-last v.ended (is_some v.fault) (sym (w.if-is_some.ensures ∙ ap (λ (k : IntakeHeld). is_some k.fault) c.self.view_is))
     ]
 
 pub returns-then-self-2-clause-stands : goal.returns-then-self-2-clause-stands

@@ -1,4 +1,4 @@
-use Rattle.ty_intake.proofs.Starting.{starts}
+use Rattle.ty_intake.proofs.EmptyFeeds.{starts}
 use Rattle.ty_intake.proofs.intake.Intake.new.Goals as goal
 
 pub returns : goal.returns

@@ -6,12 +6,12 @@ use Rattle.std.specs.Cmp.Lexicographic.{slice_cmp, nat_list_cmp_total, texts_tie
 use Rattle.ty_base.specs.Feed.{remove}
 use Rattle.ty_map.specs.Ascending.{IsAscending}
 use Rattle.ty_map.specs.Shape.{Empty, Fork, pairs, height}
-use Rattle.ty_map.specs.Nodes.{entry, shape_of, IsAvl}
-use Rattle.ty_map.proofs.Around.{joined, sorted_joined, if_ok-map}
+use Rattle.ty_map.specs.Nodes.{pair_of, shape_of}
+use Rattle.ty_map.specs.steps.Tree.{IsAvl, AtMostFresh}
+use Rattle.ty_map.proofs.Nodes.{joined, sorted_joined, if_ok-map}
 use Rattle.ty_map.proofs.Order.{OnlyFails, remove_left, remove_right, remove_middle, sorted_remove_left, sorted_remove_right, sorted_remove_middle}
-use Rattle.ty_map.proofs.Around.{append_nil}
-use Rattle.ty_map.specs.Fresh.{AtMostFresh}
-use Rattle.ty_map.proofs.Shared.{empty_fresh, at_most-more, under_left, under_right, left_shared, right_shared}
+use Rattle.ty_map.proofs.Nodes.{append_nil}
+use Rattle.ty_map.proofs.FreshCounts.{empty_fresh, at_most-more, under_left, under_right, left_shared, right_shared}
 use Rattle.ty_map.proofs.tree.Tree.+remove.Goals as goal
 
 pub balance-requires-clause-sorted : goal.balance-requires-clause-sorted
@@ -27,7 +27,7 @@ balance-requires-clause-sorted t c =
     let el = c.in_ok-left-in-Less.ensures.pairs ∙ ap (λ x. remove (pairs x.left) q) c.deref-in-Less.ensures in
     let ee = c.in_ok-try_clone-in-Less.ensures ∙ ap (λ x. x.pair.value) c.deref-in-Less-2.ensures in
     let er = ap (λ d. (pairs d)) c.in_ok-copy-in-Less.ensures ∙ ap (λ x. (pairs x.right)) c.deref-in-Less-3.ensures in
-    sorted_joined el ee er (sorted_remove_left (slice_cmp nat_cmp) nat_list_cmp_total q test only (pairs n.left) (entry n.pair.value) (pairs n.right) p good.0)
+    sorted_joined el ee er (sorted_remove_left (slice_cmp nat_cmp) nat_list_cmp_total q test only (pairs n.left) (pair_of n.pair.value) (pairs n.right) p good.0)
 
 pub balance-requires-in-Greater-clause-sorted : goal.balance-requires-in-Greater-clause-sorted
 balance-requires-in-Greater-clause-sorted t c =
@@ -42,7 +42,7 @@ balance-requires-in-Greater-clause-sorted t c =
     let el = ap (λ d. (pairs d)) c.in_ok-copy-in-Greater.ensures ∙ ap (λ x. (pairs x.left)) c.deref-in-Greater-2.ensures in
     let ee = c.in_ok-try_clone-in-Greater.ensures ∙ ap (λ x. x.pair.value) c.deref-in-Greater-3.ensures in
     let er = c.in_ok-right-in-Greater.ensures.pairs ∙ ap (λ x. remove (pairs x.right) q) c.deref-in-Greater.ensures in
-    sorted_joined el ee er (sorted_remove_right (slice_cmp nat_cmp) nat_list_cmp_total q test only (pairs n.left) (entry n.pair.value) (pairs n.right) p good.0)
+    sorted_joined el ee er (sorted_remove_right (slice_cmp nat_cmp) nat_list_cmp_total q test only (pairs n.left) (pair_of n.pair.value) (pairs n.right) p good.0)
 
 pub balance-requires-in-Some-clause-sorted : goal.balance-requires-in-Some-clause-sorted
 balance-requires-in-Some-clause-sorted t c =
@@ -56,9 +56,9 @@ balance-requires-in-Some-clause-sorted t c =
     let only : OnlyFails (slice_cmp nat_cmp) q test = λ x. ap not (texts_ties q x) in
     let el = ap (λ d. (pairs d)) c.in_ok-copy-in-Some.ensures ∙ ap (λ x. (pairs x.left)) c.deref-in-Some.ensures in
     let rest = c.in_ok-split_first-in-Equal.ensures.pairs in
-    let split : (pairs c.deref-in-Equal.result.now.right) ≡ entry c.in-Some.first.value ∷ (pairs c.in-Some.right) = rw c.in-Some.is at rest in
-    let whole : (pairs n.right) ≡ entry c.in-Some.first.value ∷ (pairs c.in-Some.right) = ap (λ x. (pairs x.right)) (sym c.deref-in-Equal.ensures) ∙ split in
-    sorted_joined {e = c.in-Some.first.value} el refl refl (subst (λ x. IsAscending ((pairs n.left) ++ x)) whole (sorted_remove_middle (slice_cmp nat_cmp) nat_list_cmp_total q test only (pairs n.left) (entry n.pair.value) (pairs n.right) p good.0))
+    let split : (pairs c.deref-in-Equal.result.now.right) ≡ pair_of c.in-Some.first.value ∷ (pairs c.in-Some.right) = rw c.in-Some.is at rest in
+    let whole : (pairs n.right) ≡ pair_of c.in-Some.first.value ∷ (pairs c.in-Some.right) = ap (λ x. (pairs x.right)) (sym c.deref-in-Equal.ensures) ∙ split in
+    sorted_joined {e = c.in-Some.first.value} el refl refl (subst (λ x. IsAscending ((pairs n.left) ++ x)) whole (sorted_remove_middle (slice_cmp nat_cmp) nat_list_cmp_total q test only (pairs n.left) (pair_of n.pair.value) (pairs n.right) p good.0))
 
 pub returns-in_ok-copy-in-Less-clause-pairs : goal.returns-in_ok-copy-in-Less-clause-pairs
 returns-in_ok-copy-in-Less-clause-pairs t c =
@@ -73,7 +73,7 @@ returns-in_ok-copy-in-Less-clause-pairs t c =
     let el = c.in_ok-left-in-Less.ensures.pairs ∙ ap (λ x. remove (pairs x.left) q) c.deref-in-Less.ensures in
     let ee = c.in_ok-try_clone-in-Less.ensures ∙ ap (λ x. x.pair.value) c.deref-in-Less-2.ensures in
     let er = ap (λ d. (pairs d)) c.in_ok-copy-in-Less.ensures ∙ ap (λ x. (pairs x.right)) c.deref-in-Less-3.ensures in
-    subst (λ x. IfOk c.balance.result (λ y. (pairs y) ≡ x)) (joined el ee er ∙ sym (remove_left (slice_cmp nat_cmp) nat_list_cmp_total q test only (pairs n.left) (entry n.pair.value) (pairs n.right) p good.0) ∙ ap (λ d. remove (pairs d) q) (sym is)) c.balance.ensures.pairs
+    subst (λ x. IfOk c.balance.result (λ y. (pairs y) ≡ x)) (joined el ee er ∙ sym (remove_left (slice_cmp nat_cmp) nat_list_cmp_total q test only (pairs n.left) (pair_of n.pair.value) (pairs n.right) p good.0) ∙ ap (λ d. remove (pairs d) q) (sym is)) c.balance.ensures.pairs
 
 pub returns-in_ok-try_clone-in-Greater-clause-pairs : goal.returns-in_ok-try_clone-in-Greater-clause-pairs
 returns-in_ok-try_clone-in-Greater-clause-pairs t c =
@@ -88,7 +88,7 @@ returns-in_ok-try_clone-in-Greater-clause-pairs t c =
     let el = ap (λ d. (pairs d)) c.in_ok-copy-in-Greater.ensures ∙ ap (λ x. (pairs x.left)) c.deref-in-Greater-2.ensures in
     let ee = c.in_ok-try_clone-in-Greater.ensures ∙ ap (λ x. x.pair.value) c.deref-in-Greater-3.ensures in
     let er = c.in_ok-right-in-Greater.ensures.pairs ∙ ap (λ x. remove (pairs x.right) q) c.deref-in-Greater.ensures in
-    subst (λ x. IfOk c.balance-in-Greater-2.result (λ y. (pairs y) ≡ x)) (joined el ee er ∙ sym (remove_right (slice_cmp nat_cmp) nat_list_cmp_total q test only (pairs n.left) (entry n.pair.value) (pairs n.right) p good.0) ∙ ap (λ d. remove (pairs d) q) (sym is)) c.balance-in-Greater-2.ensures.pairs
+    subst (λ x. IfOk c.balance-in-Greater-2.result (λ y. (pairs y) ≡ x)) (joined el ee er ∙ sym (remove_right (slice_cmp nat_cmp) nat_list_cmp_total q test only (pairs n.left) (pair_of n.pair.value) (pairs n.right) p good.0) ∙ ap (λ d. remove (pairs d) q) (sym is)) c.balance-in-Greater-2.ensures.pairs
 
 pub returns-in-None-clause-pairs : goal.returns-in-None-clause-pairs
 returns-in-None-clause-pairs t c =
@@ -103,7 +103,7 @@ returns-in-None-clause-pairs t c =
     let rest = c.in_ok-split_first-in-Equal.ensures.none in
     let none : c.deref-in-Equal.result.now.right ≡ Empty = rw c.in-None.is at rest in
     let whole : (pairs n.right) ≡ [] = ap (λ x. (pairs x.right)) (sym c.deref-in-Equal.ensures) ∙ ap (λ d. (pairs d)) none in
-    if_ok-map (λ x h. ap (λ d. (pairs d)) h ∙ ap (λ x. (pairs x.left)) c.deref-in-None.ensures ∙ sym (append_nil (pairs n.left)) ∙ ap (λ r. (pairs n.left) ++ r) (sym whole) ∙ sym (remove_middle (slice_cmp nat_cmp) nat_list_cmp_total q test only (pairs n.left) (entry n.pair.value) (pairs n.right) p good.0) ∙ ap (λ d. remove (pairs d) q) (sym is)) c.copy-in-None.result c.copy-in-None.ensures
+    if_ok-map (λ x h. ap (λ d. (pairs d)) h ∙ ap (λ x. (pairs x.left)) c.deref-in-None.ensures ∙ sym (append_nil (pairs n.left)) ∙ ap (λ r. (pairs n.left) ++ r) (sym whole) ∙ sym (remove_middle (slice_cmp nat_cmp) nat_list_cmp_total q test only (pairs n.left) (pair_of n.pair.value) (pairs n.right) p good.0) ∙ ap (λ d. remove (pairs d) q) (sym is)) c.copy-in-None.result c.copy-in-None.ensures
 
 pub returns-in_ok-copy-in-Some-clause-pairs : goal.returns-in_ok-copy-in-Some-clause-pairs
 returns-in_ok-copy-in-Some-clause-pairs t c =
@@ -117,9 +117,9 @@ returns-in_ok-copy-in-Some-clause-pairs t c =
     let only : OnlyFails (slice_cmp nat_cmp) q test = λ x. ap not (texts_ties q x) in
     let el = ap (λ d. (pairs d)) c.in_ok-copy-in-Some.ensures ∙ ap (λ x. (pairs x.left)) c.deref-in-Some.ensures in
     let rest = c.in_ok-split_first-in-Equal.ensures.pairs in
-    let split : (pairs c.deref-in-Equal.result.now.right) ≡ entry c.in-Some.first.value ∷ (pairs c.in-Some.right) = rw c.in-Some.is at rest in
-    let whole : (pairs n.right) ≡ entry c.in-Some.first.value ∷ (pairs c.in-Some.right) = ap (λ x. (pairs x.right)) (sym c.deref-in-Equal.ensures) ∙ split in
-    subst (λ x. IfOk c.balance-in-Some.result (λ y. (pairs y) ≡ x)) (joined {e = c.in-Some.first.value} el refl refl ∙ ap (λ r. (pairs n.left) ++ r) (sym whole) ∙ sym (remove_middle (slice_cmp nat_cmp) nat_list_cmp_total q test only (pairs n.left) (entry n.pair.value) (pairs n.right) p good.0) ∙ ap (λ d. remove (pairs d) q) (sym is)) c.balance-in-Some.ensures.pairs
+    let split : (pairs c.deref-in-Equal.result.now.right) ≡ pair_of c.in-Some.first.value ∷ (pairs c.in-Some.right) = rw c.in-Some.is at rest in
+    let whole : (pairs n.right) ≡ pair_of c.in-Some.first.value ∷ (pairs c.in-Some.right) = ap (λ x. (pairs x.right)) (sym c.deref-in-Equal.ensures) ∙ split in
+    subst (λ x. IfOk c.balance-in-Some.result (λ y. (pairs y) ≡ x)) (joined {e = c.in-Some.first.value} el refl refl ∙ ap (λ r. (pairs n.left) ++ r) (sym whole) ∙ sym (remove_middle (slice_cmp nat_cmp) nat_list_cmp_total q test only (pairs n.left) (pair_of n.pair.value) (pairs n.right) p good.0) ∙ ap (λ d. remove (pairs d) q) (sym is)) c.balance-in-Some.ensures.pairs
 
 pub returns-in-Leaf-clause-fresh : goal.returns-in-Leaf-clause-fresh
 returns-in-Leaf-clause-fresh t c =
@@ -132,7 +132,7 @@ returns-in_ok-copy-in-Less-clause-fresh t c =
     let is = sym c.self.view_is ∙ ap shape_of c.in-Node.is in
     let good = subst IsAvl c.in-Node.is c.self.invariant in
     let n = c.in-Node.node.value in
-    let e = entry n.pair.value in
+    let e = pair_of n.pair.value in
     let old = Fork n.left e n.right n.height in
     let b : ℕ = 3 * (height n.left + 1) in
     let left_new = subst (λ s. AtMostFresh s c.in_ok-left-in-Less.left (3 * (height s + 1))) (ap (λ x. x.left) c.deref-in-Less.ensures) c.in_ok-left-in-Less.ensures.fresh in
@@ -147,7 +147,7 @@ returns-in_ok-try_clone-in-Greater-clause-fresh t c =
     let is = sym c.self.view_is ∙ ap shape_of c.in-Node.is in
     let good = subst IsAvl c.in-Node.is c.self.invariant in
     let n = c.in-Node.node.value in
-    let e = entry n.pair.value in
+    let e = pair_of n.pair.value in
     let old = Fork n.left e n.right n.height in
     let b : ℕ = 3 * (height n.right + 1) in
     let right_new = subst (λ s. AtMostFresh s c.in_ok-right-in-Greater.right (3 * (height s + 1))) (ap (λ x. x.right) c.deref-in-Greater.ensures) c.in_ok-right-in-Greater.ensures.fresh in
@@ -161,7 +161,7 @@ pub returns-in-None-clause-fresh : goal.returns-in-None-clause-fresh
 returns-in-None-clause-fresh t c =
     let is = sym c.self.view_is ∙ ap shape_of c.in-Node.is in
     let n = c.in-Node.node.value in
-    let e = entry n.pair.value in
+    let e = pair_of n.pair.value in
     let old = Fork n.left e n.right n.height in
     let m : ℕ = 3 * (n.height + 1) in
     subst (λ s. IfOk c.copy-in-None.result (λ y. AtMostFresh s y (3 * (height s + 1)))) (sym is)
@@ -172,7 +172,7 @@ returns-in_ok-copy-in-Some-clause-fresh t c =
     let is = sym c.self.view_is ∙ ap shape_of c.in-Node.is in
     let good = subst IsAvl c.in-Node.is c.self.invariant in
     let n = c.in-Node.node.value in
-    let e = entry n.pair.value in
+    let e = pair_of n.pair.value in
     let old = Fork n.left e n.right n.height in
     let b : ℕ = 3 * height n.right in
     let found = c.in_ok-split_first-in-Equal.ensures.fresh in

@@ -3,10 +3,10 @@ use Rattle.std.specs.Ordering.{nat_cmp}
 use Rattle.std.specs.Cmp.Lexicographic.{slice_cmp}
 use Rattle.ty_map.specs.Ascending.{IsAscending}
 use Rattle.ty_map.specs.Shape.{Fork, pairs, height}
-use Rattle.ty_map.specs.Nodes.{entry, shape_of, IsAvl}
-use Rattle.ty_map.specs.Fresh.{AtMostFresh}
-use Rattle.ty_map.proofs.Shared.{at_most-more, under_left, right_shared}
-use Rattle.ty_map.proofs.Around.{sorted_joined}
+use Rattle.ty_map.specs.Nodes.{pair_of, shape_of}
+use Rattle.ty_map.specs.steps.Tree.{IsAvl, AtMostFresh}
+use Rattle.ty_map.proofs.FreshCounts.{at_most-more, under_left, right_shared}
+use Rattle.ty_map.proofs.Nodes.{sorted_joined}
 use Rattle.ty_map.proofs.Order.{sorted_back}
 use Rattle.ty_map.proofs.tree.Tree.+split_first.Goals as goal
 
@@ -14,20 +14,20 @@ pub balance-requires-clause-sorted : goal.balance-requires-clause-sorted
 balance-requires-clause-sorted t c =
     let good = subst IsAvl c.in-Node.is c.self.invariant in
     let n = c.in-Node.node.value in
-    let first = entry c.in-Some.first.value in
+    let first = pair_of c.in-Some.first.value in
     let found = c.in_ok-split_first-in-Node.ensures.pairs in
     let split : pairs c.deref.result.now.left ≡ first ∷ pairs c.in-Some.left = rw c.in-Some.is at found in
     let whole : pairs n.left ≡ first ∷ pairs c.in-Some.left = ap (λ x. pairs x.left) (sym c.deref.ensures) ∙ split in
-    let after = pairs c.in-Some.left ++ entry n.pair.value ∷ pairs n.right in
+    let after = pairs c.in-Some.left ++ pair_of n.pair.value ∷ pairs n.right in
     let ee = c.in_ok-try_clone-in-Some.ensures ∙ ap (λ x. x.pair.value) c.deref-in-Some.ensures in
     let er = ap (λ d. pairs d) c.in_ok-copy-in-Some.ensures ∙ ap (λ x. pairs x.right) c.deref-in-Some-2.ensures in
-    sorted_joined {l = pairs c.in-Some.left} refl ee er (sorted_back (slice_cmp nat_cmp) [] first after (subst (λ x. IsAscending (x ++ entry n.pair.value ∷ pairs n.right)) whole good.0))
+    sorted_joined {l = pairs c.in-Some.left} refl ee er (sorted_back (slice_cmp nat_cmp) [] first after (subst (λ x. IsAscending (x ++ pair_of n.pair.value ∷ pairs n.right)) whole good.0))
 
 pub returns-in_ok-copy-in-None-clause-fresh : goal.returns-in_ok-copy-in-None-clause-fresh
 returns-in_ok-copy-in-None-clause-fresh t c =
     let is = sym c.self.view_is ∙ ap shape_of c.in-Node.is in
     let n = c.in-Node.node.value in
-    let e = entry n.pair.value in
+    let e = pair_of n.pair.value in
     let old = Fork n.left e n.right n.height in
     let m : ℕ = 3 * n.height in
     let er = c.in_ok-copy-in-None.ensures ∙ ap (λ x. x.right) c.deref-in-None-2.ensures in
@@ -38,7 +38,7 @@ returns-in_ok-rest-in-Some-clause-fresh t c =
     let is = sym c.self.view_is ∙ ap shape_of c.in-Node.is in
     let good = subst IsAvl c.in-Node.is c.self.invariant in
     let n = c.in-Node.node.value in
-    let e = entry n.pair.value in
+    let e = pair_of n.pair.value in
     let old = Fork n.left e n.right n.height in
     let b : ℕ = 3 * height n.left in
     let found = c.in_ok-split_first-in-Node.ensures.fresh in

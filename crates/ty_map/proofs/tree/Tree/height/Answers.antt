@@ -1,7 +1,7 @@
 use Rattle.std.proofs.Common.{◌+◌, ◌^◌, ◌≤◌, length, ap, sym, subst, ◌∙◌}
 use Rattle.ty_map.specs.Shape.{pairs, height, IsBalanced}
 use Rattle.ty_map.specs.Nodes.{shape_of}
-use Rattle.ty_map.proofs.Low.{balanced_is_low, balanced_is_no_lower, root_is_balanced}
+use Rattle.ty_map.proofs.Heights.{balanced_is_low, balanced_is_no_lower, root_is_balanced}
 use Rattle.ty_map.proofs.tree.Tree.height.Goals as goal
 
 pub returns-in-Node-clause-low : goal.returns-in-Node-clause-low

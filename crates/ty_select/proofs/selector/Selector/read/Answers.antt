@@ -1,5 +1,5 @@
 use Rattle.std.proofs.Common.{ap, length}
-use Rattle.ty_select.specs.Reading.{selector_of, from_the_front, whole}
+use Rattle.ty_select.specs.Expressions.{selector_of, from_the_front, whole_text}
 use Rattle.ty_select.proofs.Loops.{fault_placed}
 use Rattle.ty_select.proofs.selector.Selector.read.Goals as goal
 
@@ -9,4 +9,4 @@ returns-in-Ok-clause-reads c = ap (from_the_front (length c.args.text.now)) c.in
 
 pub returns-in-Err-clause-fault : goal.returns-in-Err-clause-fault
 unfolding selector_of
-returns-in-Err-clause-fault c = fault_placed (length c.args.text.now) c.in-Err.stop (whole c.args.text.now) c.placed.result c.placed.ensures c.in-Err.ensures
+returns-in-Err-clause-fault c = fault_placed (length c.args.text.now) c.in-Err.stop (whole_text c.args.text.now) c.placed.result c.placed.ensures c.in-Err.ensures

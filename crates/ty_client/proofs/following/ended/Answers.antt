@@ -1,8 +1,0 @@
-use Rattle.std.proofs.Common.{[], sym, ◌∙◌, arith}
-use Rattle.ty_client.proofs.following.ended.Goals as goal
-
-pub returns-then-left-eq0 : goal.returns-then-left-eq0
-returns-then-left-eq0 c = λ bytes rest ms s r. sym (c.left-left.ensures [] bytes rest ms s c.requires r) ∙ c.if-left-eq0.true
-
-pub returns-else-left-eq0 : goal.returns-else-left-eq0
-returns-else-left-eq0 c = λ bytes rest ms s r. (omega arith, c.left-left.ensures [] bytes rest ms s c.requires r)

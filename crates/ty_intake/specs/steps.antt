@@ -1,0 +1,2 @@
+-- Words that only private clauses need.
+pub mod Progress

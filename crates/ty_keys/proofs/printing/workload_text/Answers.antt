@@ -1,6 +1,0 @@
-use Rattle.ty_keys.specs.Grammar.{key_text}
-use Rattle.ty_keys.proofs.printing.workload_text.Goals as goal
-
-pub returns : goal.returns
-unfolding key_text
-returns c = c.joined.ensures

@@ -1,0 +1,103 @@
+-- How words and quoted texts are cut out.
+use Rattle.std.proofs.Common.{◌≡◌, ℕ, zero, suc, ◌+◌, ◌<◌, List, [], ◌∷◌, length, take, drop, Bool, true, false, not, ◌==◌, ◌||◌, ◌&&◌, cond, refl, sym, ap, ◌∙◌, subst, arith}
+use Rattle.std.specs.List.{list_all, prefix_len, position_or_len, take_while}
+use Rattle.std.specs.Str.{IsAscii, IsUtf8, is_utf8}
+use Rattle.std.proofs.lemmas.List.Sums.{take_while-cons}
+use Rattle.std.proofs.lemmas.List.Folds.{length-prefix_len}
+use Rattle.std.proofs.lemmas.Bool.{and_from}
+use Rattle.std.proofs.lemmas.Str.{IsUtf8-from_ascii, is_utf8-from_IsUtf8, IsUtf8-from_is_utf8}
+use Rattle.std.proofs.lemmas.Bool.Decides.{nat_tests}
+use Rattle.ty_select.specs.declared.token.Kind.TheVariants.{Word, Quoted, Junk}
+use Rattle.ty_select.specs.Tokens.{Lexeme, nothing, word_at, quoted_at}
+use Rattle.ty_select.specs.Words.{is_word_byte, is_word_len, is_word}
+
+and_true : (b : Bool) → (b && true) ≡ b
+and_true true = refl
+and_true false = refl
+
+pub word_byte_is_ascii : (b : ℕ) → is_word_byte b ≡ true → b < 128
+word_byte_is_ascii b h = grind (arith, nat_tests)
+
+ascii_cons : (x : ℕ) (xs : List ℕ) → x < 128 → IsAscii xs → IsAscii (x ∷ xs)
+ascii_cons x xs h hs zero = h
+ascii_cons x xs h hs (suc i) = hs i
+
+ascii_nil : IsAscii []
+ascii_nil i = omega arith
+
+pub word_is_ascii : (xs : List ℕ) → IsAscii (take_while is_word_byte xs)
+word_is_ascii [] = ascii_nil
+word_is_ascii (x ∷ xs) =
+    subst (λ l. IsAscii l) (sym (take_while-cons is_word_byte x xs))
+    (elim (is_word_byte x) as (λ v. is_word_byte x ≡ v → IsAscii (cond v (x ∷ take_while is_word_byte xs) [])) [
+      | true ↦ λ e. ascii_cons x _ (word_byte_is_ascii x e) (word_is_ascii xs)
+      | false ↦ λ _. ascii_nil
+    ] refl)
+
+pub word_is_utf8 : (xs : List ℕ) (n : ℕ) → n ≡ prefix_len is_word_byte xs → IsUtf8 (take n xs)
+word_is_utf8 xs n e = subst (λ k. IsUtf8 (take k xs)) (sym e) (IsUtf8-from_ascii _ (word_is_ascii xs))
+
+-- the word bytes at the front
+pub run_bytes : (xs : List ℕ) → list_all is_word_byte (take_while is_word_byte xs) ≡ true
+run_bytes [] = refl
+run_bytes (x ∷ xs) =
+    subst (λ l. list_all is_word_byte l ≡ true) (sym (take_while-cons is_word_byte x xs))
+    (elim (is_word_byte x) as (λ v. is_word_byte x ≡ v → list_all is_word_byte (cond v (x ∷ take_while is_word_byte xs) []) ≡ true) [
+      | true ↦ λ e. and_from _ _ e (run_bytes xs)
+      | false ↦ λ _. refl
+    ] refl)
+
+-- they are a word where they are as many as a word has
+pub run_is_word : (here : List ℕ) → is_word (take_while is_word_byte here) ≡ is_word_len (prefix_len is_word_byte here)
+run_is_word here =
+    ap (λ b. is_word_len (length (take_while is_word_byte here)) && b) (run_bytes here)
+    ∙ and_true (is_word_len (length (take_while is_word_byte here)))
+    ∙ ap is_word_len (length-prefix_len is_word_byte here)
+
+pub word_found : (here : List ℕ) (n : ℕ) → n ≡ prefix_len is_word_byte here → is_word_len n ≡ true
+    → word_at here ≡ record { kind = Word; here = here; text = take n here; rest = drop n here }
+word_found here n e h =
+    let found : Lexeme = record { kind = Word; here = here; text = take (prefix_len is_word_byte here) here; rest = drop (prefix_len is_word_byte here) here } in
+    ap (λ b. cond b found (nothing Junk here)) (run_is_word here ∙ ap is_word_len (sym e) ∙ h)
+    ∙ ap (λ k. record { kind = Word; here = here; text = take k here; rest = drop k here }) (sym e)
+
+pub word_refused : (here : List ℕ) (n : ℕ) → n ≡ prefix_len is_word_byte here → is_word_len n ≡ false → word_at here ≡ nothing Junk here
+word_refused here n e h =
+    let found : Lexeme = record { kind = Word; here = here; text = take (prefix_len is_word_byte here) here; rest = drop (prefix_len is_word_byte here) here } in
+    ap (λ b. cond b found (nothing Junk here)) (run_is_word here ∙ ap is_word_len (sym e) ∙ h)
+
+pub not_utf8 : (bs : List ℕ) → ¬ (IsUtf8 bs) → is_utf8 bs ≡ false
+not_utf8 bs h = elim (is_utf8 bs) as (λ v. is_utf8 bs ≡ v → v ≡ false) [ true ↦ λ e. absurd (h (IsUtf8-from_is_utf8 bs e)) | false ↦ λ _. refl ] refl
+
+-- what quoted_at comes to, over plain variables
+abbrev cut : List ℕ → List ℕ → ℕ → Bool → Bool → Lexeme
+cut here body n ends utf8 = cond (ends || not utf8) (nothing Junk here) (record { kind = Quoted; here = here; text = take n body; rest = drop (n + 1) body })
+
+abbrev place : ℕ → List ℕ → ℕ
+place quote body = position_or_len (λ b. b == quote) body
+
+opened : (here body : List ℕ) (quote n : ℕ) → body ≡ drop 1 here → n ≡ place quote body → quoted_at here quote ≡ cut here body n (n == length body) (is_utf8 (take n body))
+opened here body quote n b e =
+    ap (λ bd. cut here bd (place quote bd) (place quote bd == length bd) (is_utf8 (take (place quote bd) bd))) (sym b)
+    ∙ ap (λ k. cut here body k (k == length body) (is_utf8 (take k body))) (sym e)
+
+pub quoted_found : (here body : List ℕ) (quote n : ℕ) → body ≡ drop 1 here → n ≡ place quote body → n < length body → IsUtf8 (take n body)
+    → quoted_at here quote ≡ record { kind = Quoted; here = here; text = take n body; rest = drop (n + 1) body }
+quoted_found here body quote n b e lt u =
+    let ends : (n == length body) ≡ false = grind (arith, nat_tests) in
+    opened here body quote n b e
+    ∙ ap (λ b. cut here body n b (is_utf8 (take n body))) ends
+    ∙ ap (λ b. cut here body n false b) (is_utf8-from_IsUtf8 _ u)
+
+pub quoted_unended : (here body : List ℕ) (quote n : ℕ) → body ≡ drop 1 here → n ≡ place quote body → n ≡ length body → quoted_at here quote ≡ nothing Junk here
+quoted_unended here body quote n b e full =
+    let ends : (n == length body) ≡ true = grind (arith, nat_tests) in
+    opened here body quote n b e
+    ∙ ap (λ b. cut here body n b (is_utf8 (take n body))) ends
+
+pub quoted_other : (here body : List ℕ) (quote n : ℕ) → body ≡ drop 1 here → n ≡ place quote body → n < length body → ¬ (IsUtf8 (take n body)) → quoted_at here quote ≡ nothing Junk here
+quoted_other here body quote n b e lt u =
+    let ends : (n == length body) ≡ false = grind (arith, nat_tests) in
+    opened here body quote n b e
+    ∙ ap (λ b. cut here body n b (is_utf8 (take n body))) ends
+    ∙ ap (λ b. cut here body n false b) (not_utf8 _ u)

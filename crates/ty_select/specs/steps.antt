@@ -1,0 +1,4 @@
+-- Words of private clauses.
+pub mod Forms
+pub mod Returns
+pub mod Tokens

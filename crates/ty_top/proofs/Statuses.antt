@@ -1,0 +1,238 @@
+-- What a run's exit status tells of its ending.
+use Rattle.std.proofs.Common.{◌≡◌, ◌≢◌, ◌⊎◌, inl, inr, true, false, true≢false, ℕ, Bool, refl, sym, ◌∙◌, arith, ap}
+use Rattle.ty_wire.specs.declared.fault.WireFault.TheVariants as wire
+use Rattle.ty_intake.specs.declared.intake.IntakeFault.{IntakeFault}
+use Rattle.ty_intake.specs.declared.intake.IntakeFault.TheVariants as feed
+use Rattle.ty_client.specs.declared.fault.StreamFault.{StreamFault}
+use Rattle.ty_client.specs.declared.fault.StreamFault.TheVariants as stream
+use Rattle.ty_top.specs.Endings.{exit_status, stream_status, follow_status, fault_status, feed_status}
+use Rattle.ty_top.specs.declared.ending.Ending.{Ending}
+use Rattle.ty_top.specs.declared.ending.Ending.TheVariants.{Usage, Stream, Follow}
+use Rattle.ty_top.specs.declared.ending.StreamEnd.{StreamEnd}
+use Rattle.ty_top.specs.declared.ending.StreamEnd.TheVariants as stream_end
+use Rattle.ty_top.specs.declared.ending.FollowEnd.{FollowEnd}
+use Rattle.ty_top.specs.declared.ending.FollowEnd.TheVariants as follow_end
+
+-- a feed's fault, and a connection's
+
+abbrev is_line : IntakeFault → Bool
+is_line (feed.LongLine n) = true
+is_line (feed.BadUtf8 n) = true
+is_line (feed.BadLine n) = true
+is_line feed.TooMuch = false
+
+line_fault : (f : IntakeFault) → is_line f ≡ true → f ≢ feed.TooMuch
+line_fault f t e = true≢false (sym t ∙ ap is_line e)
+
+feed_either : (f : IntakeFault) → ((feed_status f ≡ 2) × (f ≢ feed.TooMuch)) ⊎ ((feed_status f ≡ 8) × (f ≡ feed.TooMuch))
+feed_either (feed.LongLine n) = inl (refl, line_fault (feed.LongLine n) refl)
+feed_either (feed.BadUtf8 n) = inl (refl, line_fault (feed.BadUtf8 n) refl)
+feed_either (feed.BadLine n) = inl (refl, line_fault (feed.BadLine n) refl)
+feed_either feed.TooMuch = inr (refl, refl)
+
+abbrev is_frame : StreamFault → Bool
+is_frame (stream.Wire wire.TooMuch) = false
+is_frame (stream.Wire (wire.TooLong k len)) = true
+is_frame (stream.Wire (wire.NotJson k)) = true
+is_frame (stream.Wire (wire.Shape k)) = true
+is_frame (stream.Version found) = true
+is_frame (stream.Order k) = true
+is_frame (stream.NotRising k had found) = true
+
+frame_fault : (f : StreamFault) → is_frame f ≡ true → f ≢ stream.Wire wire.TooMuch
+frame_fault f t e = true≢false (sym t ∙ ap is_frame e)
+
+fault_either : (f : StreamFault) → ((fault_status f ≡ 6) × (f ≢ stream.Wire wire.TooMuch)) ⊎ ((fault_status f ≡ 8) × (f ≡ stream.Wire wire.TooMuch))
+fault_either (stream.Wire wire.TooMuch) = inr (refl, refl)
+fault_either (stream.Wire (wire.TooLong k len)) = inl (refl, frame_fault (stream.Wire (wire.TooLong k len)) refl)
+fault_either (stream.Wire (wire.NotJson k)) = inl (refl, frame_fault (stream.Wire (wire.NotJson k)) refl)
+fault_either (stream.Wire (wire.Shape k)) = inl (refl, frame_fault (stream.Wire (wire.Shape k)) refl)
+fault_either (stream.Version found) = inl (refl, frame_fault (stream.Version found) refl)
+fault_either (stream.Order k) = inl (refl, frame_fault (stream.Order k) refl)
+fault_either (stream.NotRising k had found) = inl (refl, frame_fault (stream.NotRising k had found) refl)
+
+-- of `stream`
+
+s_zero : (e : StreamEnd) → stream_status e ≡ 0 → e ≡ stream_end.Done
+s_zero stream_end.Done s = refl
+s_zero stream_end.Read s = absurd (omega arith)
+s_zero stream_end.Write s = absurd (omega arith)
+s_zero stream_end.Memory s = absurd (omega arith)
+s_zero (stream_end.Fault f) s = elim (feed_either f) [ inl p ↦ absurd (omega (arith, s, p.0)) | inr p ↦ absurd (omega (arith, s, p.0)) ]
+
+s_two : (e : StreamEnd) → stream_status e ≡ 2 → (f : IntakeFault) × (f ≢ feed.TooMuch) × (e ≡ stream_end.Fault f)
+s_two stream_end.Done s = absurd (omega arith)
+s_two stream_end.Read s = absurd (omega arith)
+s_two stream_end.Write s = absurd (omega arith)
+s_two stream_end.Memory s = absurd (omega arith)
+s_two (stream_end.Fault f) s = elim (feed_either f) [ inl p ↦ (f, p.1, refl) | inr p ↦ absurd (omega (arith, s, p.0)) ]
+
+s_three : (e : StreamEnd) → stream_status e ≡ 3 → e ≡ stream_end.Read
+s_three stream_end.Done s = absurd (omega arith)
+s_three stream_end.Read s = refl
+s_three stream_end.Write s = absurd (omega arith)
+s_three stream_end.Memory s = absurd (omega arith)
+s_three (stream_end.Fault f) s = elim (feed_either f) [ inl p ↦ absurd (omega (arith, s, p.0)) | inr p ↦ absurd (omega (arith, s, p.0)) ]
+
+s_four : (e : StreamEnd) → stream_status e ≡ 4 → e ≡ stream_end.Write
+s_four stream_end.Done s = absurd (omega arith)
+s_four stream_end.Read s = absurd (omega arith)
+s_four stream_end.Write s = refl
+s_four stream_end.Memory s = absurd (omega arith)
+s_four (stream_end.Fault f) s = elim (feed_either f) [ inl p ↦ absurd (omega (arith, s, p.0)) | inr p ↦ absurd (omega (arith, s, p.0)) ]
+
+s_five : (e : StreamEnd) → stream_status e ≡ 5 → e ≡ stream_end.Memory
+s_five stream_end.Done s = absurd (omega arith)
+s_five stream_end.Read s = absurd (omega arith)
+s_five stream_end.Write s = absurd (omega arith)
+s_five stream_end.Memory s = refl
+s_five (stream_end.Fault f) s = elim (feed_either f) [ inl p ↦ absurd (omega (arith, s, p.0)) | inr p ↦ absurd (omega (arith, s, p.0)) ]
+
+s_six : (e : StreamEnd) → stream_status e ≡ 6 → ⊥
+s_six stream_end.Done s = absurd (omega arith)
+s_six stream_end.Read s = absurd (omega arith)
+s_six stream_end.Write s = absurd (omega arith)
+s_six stream_end.Memory s = absurd (omega arith)
+s_six (stream_end.Fault f) s = elim (feed_either f) [ inl p ↦ absurd (omega (arith, s, p.0)) | inr p ↦ absurd (omega (arith, s, p.0)) ]
+
+s_eight : (e : StreamEnd) → stream_status e ≡ 8 → e ≡ stream_end.Fault feed.TooMuch
+s_eight stream_end.Done s = absurd (omega arith)
+s_eight stream_end.Read s = absurd (omega arith)
+s_eight stream_end.Write s = absurd (omega arith)
+s_eight stream_end.Memory s = absurd (omega arith)
+s_eight (stream_end.Fault f) s = elim (feed_either f) [ inl p ↦ absurd (omega (arith, s, p.0)) | inr p ↦ ap (λ (x : IntakeFault). stream_end.Fault x) p.1 ]
+
+s_nine : (e : StreamEnd) → stream_status e ≡ 9 → ⊥
+s_nine stream_end.Done s = absurd (omega arith)
+s_nine stream_end.Read s = absurd (omega arith)
+s_nine stream_end.Write s = absurd (omega arith)
+s_nine stream_end.Memory s = absurd (omega arith)
+s_nine (stream_end.Fault f) s = elim (feed_either f) [ inl p ↦ absurd (omega (arith, s, p.0)) | inr p ↦ absurd (omega (arith, s, p.0)) ]
+
+-- of `follow`
+
+f_zero : (e : FollowEnd) → follow_status e ≡ 0 → e ≡ follow_end.Done
+f_zero follow_end.Done s = refl
+f_zero follow_end.Read s = absurd (omega arith)
+f_zero follow_end.Write s = absurd (omega arith)
+f_zero follow_end.Memory s = absurd (omega arith)
+f_zero (follow_end.Cut n) s = absurd (omega arith)
+f_zero (follow_end.Fault f) s = elim (fault_either f) [ inl p ↦ absurd (omega (arith, s, p.0)) | inr p ↦ absurd (omega (arith, s, p.0)) ]
+
+f_two : (e : FollowEnd) → follow_status e ≡ 2 → ⊥
+f_two follow_end.Done s = absurd (omega arith)
+f_two follow_end.Read s = absurd (omega arith)
+f_two follow_end.Write s = absurd (omega arith)
+f_two follow_end.Memory s = absurd (omega arith)
+f_two (follow_end.Cut n) s = absurd (omega arith)
+f_two (follow_end.Fault f) s = elim (fault_either f) [ inl p ↦ absurd (omega (arith, s, p.0)) | inr p ↦ absurd (omega (arith, s, p.0)) ]
+
+f_three : (e : FollowEnd) → follow_status e ≡ 3 → e ≡ follow_end.Read
+f_three follow_end.Done s = absurd (omega arith)
+f_three follow_end.Read s = refl
+f_three follow_end.Write s = absurd (omega arith)
+f_three follow_end.Memory s = absurd (omega arith)
+f_three (follow_end.Cut n) s = absurd (omega arith)
+f_three (follow_end.Fault f) s = elim (fault_either f) [ inl p ↦ absurd (omega (arith, s, p.0)) | inr p ↦ absurd (omega (arith, s, p.0)) ]
+
+f_four : (e : FollowEnd) → follow_status e ≡ 4 → e ≡ follow_end.Write
+f_four follow_end.Done s = absurd (omega arith)
+f_four follow_end.Read s = absurd (omega arith)
+f_four follow_end.Write s = refl
+f_four follow_end.Memory s = absurd (omega arith)
+f_four (follow_end.Cut n) s = absurd (omega arith)
+f_four (follow_end.Fault f) s = elim (fault_either f) [ inl p ↦ absurd (omega (arith, s, p.0)) | inr p ↦ absurd (omega (arith, s, p.0)) ]
+
+f_five : (e : FollowEnd) → follow_status e ≡ 5 → e ≡ follow_end.Memory
+f_five follow_end.Done s = absurd (omega arith)
+f_five follow_end.Read s = absurd (omega arith)
+f_five follow_end.Write s = absurd (omega arith)
+f_five follow_end.Memory s = refl
+f_five (follow_end.Cut n) s = absurd (omega arith)
+f_five (follow_end.Fault f) s = elim (fault_either f) [ inl p ↦ absurd (omega (arith, s, p.0)) | inr p ↦ absurd (omega (arith, s, p.0)) ]
+
+f_six : (e : FollowEnd) → follow_status e ≡ 6 → (f : StreamFault) × (f ≢ stream.Wire wire.TooMuch) × (e ≡ follow_end.Fault f)
+f_six follow_end.Done s = absurd (omega arith)
+f_six follow_end.Read s = absurd (omega arith)
+f_six follow_end.Write s = absurd (omega arith)
+f_six follow_end.Memory s = absurd (omega arith)
+f_six (follow_end.Cut n) s = absurd (omega arith)
+f_six (follow_end.Fault f) s = elim (fault_either f) [ inl p ↦ (f, p.1, refl) | inr p ↦ absurd (omega (arith, s, p.0)) ]
+
+f_eight : (e : FollowEnd) → follow_status e ≡ 8 → e ≡ follow_end.Fault (stream.Wire wire.TooMuch)
+f_eight follow_end.Done s = absurd (omega arith)
+f_eight follow_end.Read s = absurd (omega arith)
+f_eight follow_end.Write s = absurd (omega arith)
+f_eight follow_end.Memory s = absurd (omega arith)
+f_eight (follow_end.Cut n) s = absurd (omega arith)
+f_eight (follow_end.Fault f) s = elim (fault_either f) [ inl p ↦ absurd (omega (arith, s, p.0)) | inr p ↦ ap (λ (x : StreamFault). follow_end.Fault x) p.1 ]
+
+f_nine : (e : FollowEnd) → follow_status e ≡ 9 → (left : ℕ) × (e ≡ follow_end.Cut left)
+f_nine follow_end.Done s = absurd (omega arith)
+f_nine follow_end.Read s = absurd (omega arith)
+f_nine follow_end.Write s = absurd (omega arith)
+f_nine follow_end.Memory s = absurd (omega arith)
+f_nine (follow_end.Cut n) s = (n, refl)
+f_nine (follow_end.Fault f) s = elim (fault_either f) [ inl p ↦ absurd (omega (arith, s, p.0)) | inr p ↦ absurd (omega (arith, s, p.0)) ]
+
+s_one : (e : StreamEnd) → stream_status e ≡ 1 → ⊥
+s_one stream_end.Done s = absurd (omega arith)
+s_one stream_end.Read s = absurd (omega arith)
+s_one stream_end.Write s = absurd (omega arith)
+s_one stream_end.Memory s = absurd (omega arith)
+s_one (stream_end.Fault f) s = elim (feed_either f) [ inl p ↦ absurd (omega (arith, s, p.0)) | inr p ↦ absurd (omega (arith, s, p.0)) ]
+
+f_one : (e : FollowEnd) → follow_status e ≡ 1 → ⊥
+f_one follow_end.Done s = absurd (omega arith)
+f_one follow_end.Read s = absurd (omega arith)
+f_one follow_end.Write s = absurd (omega arith)
+f_one follow_end.Memory s = absurd (omega arith)
+f_one (follow_end.Cut n) s = absurd (omega arith)
+f_one (follow_end.Fault f) s = elim (fault_either f) [ inl p ↦ absurd (omega (arith, s, p.0)) | inr p ↦ absurd (omega (arith, s, p.0)) ]
+
+-- of either
+
+pub at_one : (e : Ending) → exit_status e ≡ 1 → e ≡ Usage
+at_one Usage s = refl
+at_one (Stream e) s = absurd (s_one e s)
+at_one (Follow e) s = absurd (f_one e s)
+
+pub at_zero : (e : Ending) → exit_status e ≡ 0 → (e ≡ Stream stream_end.Done) ⊎ (e ≡ Follow follow_end.Done)
+at_zero Usage s = absurd (omega arith)
+at_zero (Stream e) s = inl (ap (λ (x : StreamEnd). Stream x) (s_zero e s))
+at_zero (Follow e) s = inr (ap (λ (x : FollowEnd). Follow x) (f_zero e s))
+
+pub at_three : (e : Ending) → exit_status e ≡ 3 → (e ≡ Stream stream_end.Read) ⊎ (e ≡ Follow follow_end.Read)
+at_three Usage s = absurd (omega arith)
+at_three (Stream e) s = inl (ap (λ (x : StreamEnd). Stream x) (s_three e s))
+at_three (Follow e) s = inr (ap (λ (x : FollowEnd). Follow x) (f_three e s))
+
+pub at_four : (e : Ending) → exit_status e ≡ 4 → (e ≡ Stream stream_end.Write) ⊎ (e ≡ Follow follow_end.Write)
+at_four Usage s = absurd (omega arith)
+at_four (Stream e) s = inl (ap (λ (x : StreamEnd). Stream x) (s_four e s))
+at_four (Follow e) s = inr (ap (λ (x : FollowEnd). Follow x) (f_four e s))
+
+pub at_five : (e : Ending) → exit_status e ≡ 5 → (e ≡ Stream stream_end.Memory) ⊎ (e ≡ Follow follow_end.Memory)
+at_five Usage s = absurd (omega arith)
+at_five (Stream e) s = inl (ap (λ (x : StreamEnd). Stream x) (s_five e s))
+at_five (Follow e) s = inr (ap (λ (x : FollowEnd). Follow x) (f_five e s))
+
+pub at_two : (e : Ending) → exit_status e ≡ 2 → (f : IntakeFault) × (f ≢ feed.TooMuch) × (e ≡ Stream (stream_end.Fault f))
+at_two Usage s = absurd (omega arith)
+at_two (Stream e) s = let r = s_two e s in (r.0, r.1, ap (λ (x : StreamEnd). Stream x) r.2)
+at_two (Follow e) s = absurd (f_two e s)
+
+pub at_six : (e : Ending) → exit_status e ≡ 6 → (f : StreamFault) × (f ≢ stream.Wire wire.TooMuch) × (e ≡ Follow (follow_end.Fault f))
+at_six Usage s = absurd (omega arith)
+at_six (Stream e) s = absurd (s_six e s)
+at_six (Follow e) s = let r = f_six e s in (r.0, r.1, ap (λ (x : FollowEnd). Follow x) r.2)
+
+pub at_eight : (e : Ending) → exit_status e ≡ 8 → (e ≡ Stream (stream_end.Fault feed.TooMuch)) ⊎ (e ≡ Follow (follow_end.Fault (stream.Wire wire.TooMuch)))
+at_eight Usage s = absurd (omega arith)
+at_eight (Stream e) s = inl (ap (λ (x : StreamEnd). Stream x) (s_eight e s))
+at_eight (Follow e) s = inr (ap (λ (x : FollowEnd). Follow x) (f_eight e s))
+
+pub at_nine : (e : Ending) → exit_status e ≡ 9 → (left : ℕ) × (e ≡ Follow (follow_end.Cut left))
+at_nine Usage s = absurd (omega arith)
+at_nine (Stream e) s = absurd (s_nine e s)
+at_nine (Follow e) s = let r = f_nine e s in (r.0, ap (λ (x : FollowEnd). Follow x) r.1)

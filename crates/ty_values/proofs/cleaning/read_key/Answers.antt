@@ -1,6 +1,0 @@
-use Rattle.std.proofs.Common.{subst, ◌≤◌, length}
-use Rattle.ty_values.proofs.Limits.{short_when_read}
-use Rattle.ty_values.proofs.cleaning.read_key.Goals as goal
-
-pub returns-in-Ok-clause-short : goal.returns-in-Ok-clause-short
-returns-in-Ok-clause-short c = subst (λ b. length b ≤ 1024) c.bytes.ensures.value (short_when_read c.bytes.result.now c.in-Ok.key c.in-Ok.ensures.exact)

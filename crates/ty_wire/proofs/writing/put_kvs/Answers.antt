@@ -1,6 +1,0 @@
-use Rattle.std.proofs.Common.{append_assoc}
-use Rattle.ty_wire.proofs.writing.put_kvs.Goals as goal
-
-pub returns-clause-tokens : goal.returns-clause-tokens
-returns-clause-tokens c =
-    simp (c.in_ok-end_object.ensures.ok, c.in_ok-string.ensures.ok, c.in_ok-key-2.ensures.ok, c.in_ok-end_array.ensures.ok, c.in_ok-put_deltas.ensures.tokens, c.in_ok-begin_array.ensures.ok, c.in_ok-key.ensures.ok, c.in_ok-begin_object.ensures.ok, append_assoc)

@@ -1,0 +1,6 @@
+-- Words of private clauses.
+pub mod Bodies
+pub mod Frames
+pub mod Members
+pub mod Sent
+pub mod Tokens
