@@ -1,0 +1,13 @@
+//! A breadcrumb's deltas as bytes that all sessions share, and an open group that is kept as bytes.
+#![tactic(auto)]
+
+mod delta;
+mod encoded;
+mod group;
+mod mark;
+mod messages;
+#[cfg(test)]
+mod tests;
+
+pub use encoded::{Encoded, write_encoded};
+pub use group::Group;
