@@ -1,0 +1,4 @@
+pub mod Hearing
+pub mod Marks
+pub mod Held
+pub mod Talks
