@@ -1,0 +1,4 @@
+pub mod Following
+pub mod Publishing
+pub mod Shown
+pub mod steps
