@@ -33,7 +33,8 @@ pub(crate) fn written(alloc: Global, count: u64) -> Result<Vec<u8>, NoMemory> {
     Ok(out)
 }
 
-fn append(alloc: Global, message: &Msg, out: &mut Vec<u8>) -> Result<(), NoMemory> {
+// Appends the message's frame, where it fits.
+pub(crate) fn append(alloc: Global, message: &Msg, out: &mut Vec<u8>) -> Result<(), NoMemory> {
     if fits(alloc, message)? {
         write(alloc, message, out)?;
     }

@@ -1,11 +1,14 @@
-//! Measures the held map and the frames, the map against std's `BTreeMap` in the same run.
+//! Measures the held map, the frames and many sessions. The map runs beside std's `BTreeMap`.
 #![tactic(auto)]
 
+mod batch;
 mod frames;
 mod puts;
+mod sessions;
 
 use frames::{read_all, written};
 use puts::{into_btree, into_pairs};
+use sessions::{Encoding, Offering, deliver};
 use std::alloc::Global;
 use std::process::ExitCode;
 use std::rt::{Clock, Env};
@@ -13,21 +16,44 @@ use std::time::{Duration, Instant};
 use std::{env, io};
 use ty_base::read_u64;
 
+const USAGE: &str =
+    "usage: ty_bench puts COUNT KEYS | frames COUNT | sessions COUNT CRUMBS encoded|each [held]";
+
 fn main(rt: HostRuntime) -> io::Result<ExitCode> {
     let mut args = env::args(&rt)?.skip(1);
     let mode = args.next();
     let count = number(args.next());
     let keys = number(args.next());
-    match (mode.as_ref().map(|m| m.as_str()), count, keys) {
-        (Some("puts"), Some(count), Some(keys)) => measure_puts(&rt, count, keys)?,
-        (Some("frames"), Some(count), None) => measure_frames(&rt, count)?,
-        _ => rt.println("usage: ty_bench puts COUNT KEYS | frames COUNT")?,
+    let encoding = encoding(args.next());
+    let offering = offering(args.next());
+    match (mode.as_ref().map(|m| m.as_str()), count, keys, encoding) {
+        (Some("puts"), Some(count), Some(keys), None) => measure_puts(&rt, count, keys)?,
+        (Some("frames"), Some(count), None, None) => measure_frames(&rt, count)?,
+        (Some("sessions"), Some(count), Some(crumbs), Some(encoding)) => {
+            run_sessions(&rt, count, crumbs, encoding, offering)?
+        }
+        _ => rt.println(USAGE)?,
     }
     Ok(ExitCode::SUCCESS)
 }
 
 fn number(word: Option<String>) -> Option<u64> {
     read_u64(word?.as_bytes())
+}
+
+fn encoding(word: Option<String>) -> Option<Encoding> {
+    match word.as_ref().map(|w| w.as_str()) {
+        Some("each") => Some(Encoding::Each),
+        Some("encoded") => Some(Encoding::Encoded),
+        _ => None,
+    }
+}
+
+fn offering(word: Option<String>) -> Offering {
+    match word.as_ref().map(|w| w.as_str()) {
+        Some("held") => Offering::Held,
+        _ => Offering::Fresh,
+    }
 }
 
 fn elapsed<R: Clock>(rt: &R, start: Instant) -> io::Result<u128> {
@@ -67,5 +93,23 @@ fn measure_frames<R: Clock + Print + AllocGlobal>(rt: &R, count: u64) -> io::Res
     let size = bytes.len();
     println!(rt;
         "frames {count} of {size} bytes: written in {writing} us, {read} read in {reading} us"
+    )
+}
+
+// So many breadcrumbs, delivered to so many sessions. It tells no time, and the same however the
+// deltas are encoded.
+fn run_sessions<R: Print + AllocGlobal>(
+    rt: &R,
+    count: u64,
+    crumbs: u64,
+    encoding: Encoding,
+    offering: Offering,
+) -> io::Result<()> {
+    let Ok(done) = deliver(rt.alloc(), count, crumbs, encoding, offering) else {
+        return rt.println("out of memory, or a session ended");
+    };
+    println!(rt;
+        "sessions {count}: {} breadcrumbs, {} deliveries, {} bytes",
+        done.crumbs, done.deliveries, done.bytes
     )
 }

@@ -1,0 +1,91 @@
+// Batches of puts, and the breadcrumbs that they make.
+ghost use Rattle.std.specs.Prelude.{◌≡◌, true};
+ghost use Rattle.std.specs.List.{list_all};
+ghost use Rattle.ty_base.specs.Feed.{is_update as updates};
+ghost use Rattle.ty_base.specs.Passing.{item_passes};
+ghost use Rattle.ty_base.specs.Limits.{key_fits, value_fits, items_fit};
+ghost use Rattle.ty_crumb.specs.Batches.{IsBatch};
+
+use std::alloc::Global;
+use ty_base::{BATCH_UPDATES, INPUT_BYTES, Item, KEY_BYTES, NoMemory, Text, VALUE_BYTES};
+use ty_crumb::{Crumb, Made, next_crumb};
+
+const KEYS: u64 = 5_000;
+
+// A put of a value of about 100 bytes, which is another one for each number.
+fn put(alloc: Global, number: u64) -> Result<Item, NoMemory> {
+    let key = number.wrapping_mul(7919) % KEYS;
+    Ok(Item::Put {
+        key: Text::from_string(format!(in alloc;
+            "/calico/v1/host/node-1/workload/k8s/default%2fweb-{key}/endpoint/eth0"
+        )?),
+        value: Text::from_string(format!(in alloc;
+            r#"{{"ipv4_nets":["10.244.2.7/32"],"mac":"ee:ee:ee:ee:ee:ee","name":"cali0a1b2c3d4e5","revision":{number}}}"#
+        )?),
+    })
+}
+
+fn is_update(item: &Item) -> bool
+    ensures { result ≡ updates item.now }
+{
+    match item {
+        Item::Put { .. } => true,
+        Item::Del { .. } => true,
+        Item::State(_) => false,
+        Item::Mark => false,
+    }
+}
+
+fn fits(item: &Item) -> bool
+    ensures { result ≡ item_passes key_fits value_fits item.now }
+{
+    match item {
+        Item::Put { key, value } => key.bytes().len() <= KEY_BYTES
+            && value.bytes().len() <= VALUE_BYTES,
+        Item::Del { key } => key.bytes().len() <= KEY_BYTES,
+        Item::State(_) => true,
+        Item::Mark => true,
+    }
+}
+
+fn all_fit(items: &[Item]) -> bool
+    ensures { result ≡ items_fit items.now }
+{
+    items.iter().all(|item| fits(item))
+}
+
+fn all_update(items: &[Item]) -> bool
+    ensures { result ≡ list_all updates items.now }
+{
+    items.iter().all(|item| is_update(item))
+}
+
+// A batch is what `next_crumb` takes. Those that are measured have at most as many items as close
+// one.
+fn is_batch(items: &[Item]) -> bool
+    ensures { result ≡ true → IsBatch items.now }
+{
+    if items.len() > BATCH_UPDATES {
+        return false;
+    }
+    let front = items.len().saturating_sub(1);
+    all_update(&items[..front]) && all_fit(items)
+}
+
+// The breadcrumb that so many puts make, a millisecond after the last one, where they are a batch
+// and the last number isn't reached.
+pub(crate) fn next(alloc: Global, last: &Crumb, puts: u64) -> Result<Option<Crumb>, NoMemory> {
+    let first = last.number.wrapping_mul(puts);
+    let mut items = Vec::new(alloc);
+    for i in 0..puts {
+        items.push(put(alloc, first.wrapping_add(i))?)?;
+    }
+    if !is_batch(&items) || last.number >= INPUT_BYTES as u64 {
+        return Ok(None);
+    }
+    let at = last.at.saturating_add(1);
+    match next_crumb(alloc, last, &items, last.cut, at)? {
+        Made::Crumb(crumb) => Ok(Some(crumb)),
+        Made::Unchanged => Ok(None),
+    }
+}
