@@ -10,7 +10,7 @@ use Rattle.ty_crumb.specs.declared.crumb.Crumb.{Crumb}
 use Rattle.ty_crumb.specs.Batches.{IsClosed, IsNextBatch, next_entries}
 use Rattle.ty_crumb.specs.declared.successor.Made.{Made}
 use Rattle.ty_crumb.specs.declared.successor.Made.TheVariants.{Crumb as Next}
-use Rattle.ty_crumb.specs.Crumbs.{CrumbStands, world_of, is_nothing_new, IfNext, entries_of}
+use Rattle.ty_crumb.specs.Crumbs.{CrumbStands, world_of, is_unchanged, IfNext, entries_of}
 use Rattle.ty_chain.specs.Shown.{entry_by}
 use Rattle.ty_crumb.proofs.Book.{the_book_grows}
 use Rattle.ty_crumb.proofs.Crumbs.{replay_closed}
@@ -21,11 +21,11 @@ some_items w [] differs = absurd (true≢false (sym ((worlds_decide w w).1 refl)
 some_items w (x ∷ xs) differs = omega arith
 
 -- the next breadcrumb's number is at most the number of items
-pub few : (m : Made) (next last : Crumb) (items : List Item) (cut : ℕ) → m ≡ Next next → is_nothing_new m ≡ same_world (world_of last) (fold after (world_of last) items)
+pub few : (m : Made) (next last : Crumb) (items : List Item) (cut : ℕ) → m ≡ Next next → is_unchanged m ≡ same_world (world_of last) (fold after (world_of last) items)
     → IfNext m (λ d. d.number ≡ last.number + 1) → last.number ≤ cut → next.number ≤ cut + length items
 few m next last items cut is same number le =
     let one : next.number ≡ last.number + 1 = subst (λ (x : Made). IfNext x (λ d. d.number ≡ last.number + 1)) is number in
-    let some = some_items (world_of last) items (sym same ∙ ap is_nothing_new is) in
+    let some = some_items (world_of last) items (sym same ∙ ap is_unchanged is) in
     omega (arith, one, some, le)
 
 -- over the book of closed items the next breadcrumb's entry leads to the longer book
