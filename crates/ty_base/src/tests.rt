@@ -121,6 +121,25 @@ fn a_source_gives_piece_by_piece_and_fails_when_told(rt: HostRuntime) -> Result<
     Ok(())
 }
 
+// Of a text of 65,537 bytes, the third call comes to its end.
+#[test]
+fn a_call_moves_65_536_bytes_at_most(rt: HostRuntime) -> Result<(), Fail> {
+    let mut text = Vec::new(rt.alloc());
+    text.resize(65_537, b'x')?;
+    for (failing, whole) in [(3u64, false), (4, true)] {
+        let mut texts = Vec::new(rt.alloc());
+        texts.push(text.to_vec(rt.alloc())?)?;
+        let mut source = MemSource::new(rt.alloc(), texts, vec![in rt.alloc(); failing]?)?;
+        assert_eq!(rt; read_all(rt.alloc(), &mut source).is_ok(), whole);
+    }
+    for (failing, given) in [(2u64, 65_536usize), (3, 65_537)] {
+        let mut sink = MemSink::new(rt.alloc(), 70_000, vec![in rt.alloc(); failing]?)?;
+        assert_eq!(rt; give_all(&mut sink, &text).is_ok(), given == 65_537);
+        assert_eq!(rt; sink.given().len(), given);
+    }
+    Ok(())
+}
+
 #[test]
 fn a_sink_takes_what_fits(rt: HostRuntime) -> Result<(), Fail> {
     let mut sink = MemSink::new(rt.alloc(), 5, vec![in rt.alloc(); 2u64]?)?;

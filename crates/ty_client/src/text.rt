@@ -1,5 +1,5 @@
 // The text of what was rebuilt, on its way to a sink.
-ghost use Rattle.std.specs.Prelude.{◌≡◌, ◌≤◌, ◌++◌, codes, IfOk, OnOk, OnErr, IsErrOf};
+ghost use Rattle.std.specs.Prelude.{◌≡◌, ◌≤◌, ◌++◌, codes, length, take, IfOk, OnOk, OnErr, IsErrOf};
 ghost use Rattle.json.specs.Print.{quoted};
 ghost use Rattle.ty_base.specs.Causes.{Rose};
 ghost use Rattle.ty_base.specs.Fronts.{AppendsFront};
@@ -121,9 +121,23 @@ fn heading(alloc: Global, at: &At) -> Result<Vec<u8>, NoMemory>
     Ok(out)
 }
 
-/// Appends number, status and count of pairs, parted by spaces, and a line's end.
+/// Appends number, status and count of pairs, parted by spaces, and a line's end. Want of memory leaves what was there.
 pub fn append_standing(at: &At, out: &mut Vec<u8>) -> Result<(), NoMemory>
-    ensures { OnOk result (out.new.items ≡ out.old.items ++ standing at.now) }
+    ensures ok { OnOk result (out.new.items ≡ out.old.items ++ standing at.now) }
+    ensures err { OnErr result (out.new.items ≡ out.old.items) }
+{
+    let before = out.len();
+    let written = write_standing(at, out);
+    if written.is_err() {
+        out.truncate(before);
+    }
+    written
+}
+
+// The same; want of memory leaves a part of it behind what was there.
+fn write_standing(at: &At, out: &mut Vec<u8>) -> Result<(), NoMemory>
+    ensures ok { OnOk result (out.new.items ≡ out.old.items ++ standing at.now) }
+    ensures err { OnErr result (take (length out.old.items) out.new.items ≡ out.old.items) }
 {
     print_u64(at.number, out)?;
     out.extend_from_slice(b" ")?;

@@ -1,11 +1,11 @@
 -- Small lists of items with the books that they are to have. Keys and values are single bytes.
-use Rattle.std.specs.Prelude.{ℕ, List, [], ◌∷◌, map, length, Some, refl}
+use Rattle.std.specs.Prelude.{ℕ, List, [], ◌∷◌, map, length, Some, None, refl}
 use Rattle.std.specs.List.{range_with_len}
 use Rattle.ty_base.specs.declared.item.Item.{Item}
 use Rattle.ty_base.specs.declared.item.Item.TheVariants.{Put, Del, State, Mark}
-use Rattle.ty_base.specs.declared.status.Status.TheVariants.{Wait, InSync}
+use Rattle.ty_base.specs.declared.status.Status.TheVariants.{Wait, Resync, InSync}
 use Rattle.ty_base.specs.declared.delta.Delta.{Delta}
-use Rattle.ty_base.specs.declared.delta.Kind.TheVariants.{New}
+use Rattle.ty_base.specs.declared.delta.Kind.TheVariants.{New, Updated, Deleted}
 use Rattle.ty_base.specs.declared.entry.Entry.{Entry}
 
 abbrev pub added : List ℕ → List ℕ → Delta
@@ -46,3 +46,15 @@ updates n = map (λ k. Put (k ∷ []) (49 ∷ [])) (range_with_len 1 n)
 -- how many deltas each entry has
 abbrev pub sizes : List Entry → List ℕ
 sizes es = map (λ e. length e.deltas) es
+
+-- a value is replaced, then deleted with a new status, and then the status alone changes
+abbrev pub each_kind : List Item
+each_kind = Put (97 ∷ []) (49 ∷ []) ∷ Mark ∷ Put (97 ∷ []) (50 ∷ []) ∷ Mark ∷ Del (97 ∷ []) ∷ State InSync ∷ State Resync ∷ []
+
+abbrev pub each_kind_book : List Entry
+each_kind_book =
+    record { cut = 2; status = Wait; deltas = added (97 ∷ []) (49 ∷ []) ∷ [] }
+    ∷ record { cut = 4; status = Wait; deltas = record { key = 97 ∷ []; kind = Updated; value = Some (50 ∷ []); told = refl } ∷ [] }
+    ∷ record { cut = 6; status = InSync; deltas = record { key = 97 ∷ []; kind = Deleted; value = None; told = refl } ∷ [] }
+    ∷ record { cut = 7; status = Resync; deltas = [] }
+    ∷ []

@@ -11,6 +11,7 @@ pub fn rows()
     ensures held { feed.book true it.held_value ≡ it.held_value_book }
     ensures replaced { feed.book true it.replaced_key ≡ it.replaced_key_book }
     ensures deleted { feed.book true it.put_and_deleted ≡ it.put_and_deleted_book }
+    ensures kinds { feed.book false it.each_kind ≡ it.each_kind_book }
     ensures many_closings { feed.closings true (it.updates 101) ≡ 100 ∷ 101 ∷ [] }
     ensures many_cuts { feed.cuts true (it.updates 101) ≡ 100 ∷ 101 ∷ [] }
     ensures many_deltas { it.sizes (feed.book true (it.updates 101)) ≡ 100 ∷ 1 ∷ [] }

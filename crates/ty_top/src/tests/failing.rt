@@ -64,3 +64,22 @@ fn a_sink_that_fails(rt: HostRuntime) -> Result<(), Fail> {
     assert!(rt; came(&ran, 0, &whole(alloc)?, ""));
     Ok(())
 }
+
+// Of 65,537 bytes that would come at once, the third take comes to the end: of a feed of blank lines, and in a frame.
+#[test]
+fn a_take_has_65_536_bytes_at_most(rt: HostRuntime) -> Result<(), Fail> {
+    let alloc = rt.alloc();
+    for (word, byte, status) in [("stream", b'\n', 0u8), ("follow", 0x00, 9)] {
+        let mut bytes = b"\n\n\n\n".to_vec(alloc)?;
+        if status == 9 {
+            bytes = b"\x00\x01\x00\x00".to_vec(alloc)?;
+        }
+        bytes.resize(65_537, byte)?;
+        for (read_fails, status) in [(2u64, 3), (3, 3), (4, status)] {
+            let devices = Devices { read_fails, ..GOOD };
+            let ran = run(alloc, &[word], &bytes, devices)?;
+            assert_eq!(rt; ran.status, status, "{word} {read_fails}");
+        }
+    }
+    Ok(())
+}

@@ -11,6 +11,7 @@ returns c = record {
   held = refl;
   replaced = refl;
   deleted = refl;
+  kinds = refl;
   many_closings = refl;
   many_cuts = refl;
   many_deltas = refl;
