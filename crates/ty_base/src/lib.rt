@@ -7,6 +7,7 @@ mod flow;
 mod item;
 mod laws;
 mod limits;
+mod list;
 mod memory;
 mod number;
 mod outside;
@@ -28,6 +29,7 @@ pub use limits::{
     INPUT_BYTES, KEY_BYTES, LINE_BYTES, LOOK_INTERVAL, MESSAGE_DELTAS, PIECE_BYTES, PING_INTERVAL,
     PONG_TIMEOUT, VALUE_BYTES,
 };
+pub use list::List;
 pub use memory::{MemSink, MemSource};
 pub use number::{print_u64, read_u64};
 pub use outside::{Failed, Sink, Source};

@@ -1,6 +1,6 @@
 // What no clause says: texts from outside, and that calls succeed where there is memory.
 use crate::{
-    Delta, Deltas, Failed, Kind, MemSink, MemSource, ReadFault, Sink, Source, Status, Text,
+    Delta, Deltas, Failed, Kind, List, MemSink, MemSource, ReadFault, Sink, Source, Status, Text,
     TextFault, give_all, print_u64, read_all, read_status, read_u64, status_text,
 };
 use std::alloc::Global;
@@ -95,6 +95,19 @@ fn deltas_keep_their_order(rt: HostRuntime) -> Result<(), Fail> {
         value: Some(Text::of(rt.alloc(), "1")?),
     })?;
     assert_eq!(rt; Deltas::from_vec(list).as_slice().len(), 1);
+    Ok(())
+}
+
+#[test]
+fn lists_give_what_was_pushed(rt: HostRuntime) -> Result<(), Fail> {
+    let mut numbers = List::new(rt.alloc());
+    for n in [7u64, 3, 7] {
+        numbers.push(n)?;
+    }
+    assert_eq!(rt; numbers.len(), 3);
+    assert_eq!(rt; numbers.at(1), &3);
+    assert_eq!(rt; numbers.as_slice(), [7u64, 3, 7].as_slice());
+    assert_eq!(rt; numbers.into_vec().as_slice().len(), 3);
     Ok(())
 }
 
