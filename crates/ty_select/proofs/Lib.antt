@@ -1,4 +1,5 @@
 pub mod Back
+pub mod Grammar
 pub mod Loops
 pub mod Printable
 pub mod Printed

@@ -22,7 +22,7 @@ ascii_cons : (x : ℕ) (xs : List ℕ) → x < 128 → IsAscii xs → IsAscii (x
 ascii_cons x xs h hs zero = h
 ascii_cons x xs h hs (suc i) = hs i
 
-ascii_nil : IsAscii []
+pub ascii_nil : IsAscii []
 ascii_nil i = omega arith
 
 pub word_is_ascii : (xs : List ℕ) → IsAscii (take_while is_word_byte xs)

@@ -1,5 +1,6 @@
 pub mod Expressions
 pub mod Forms
+pub mod Grammar
 pub mod Printable
 pub mod Text
 pub mod Tokens

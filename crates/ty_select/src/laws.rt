@@ -5,6 +5,7 @@ ghost use Rattle.ty_select.specs.Forms.{Form};
 ghost use Rattle.ty_select.specs.Printable.{IsPrintable};
 ghost use Rattle.ty_select.specs.Text.{printed, depth};
 ghost use Rattle.ty_select.specs.Expressions.{selector_of};
+ghost use Rattle.ty_select.specs.Grammar.{IsSelector, IsSelectorWithin};
 
 /// What is printed is read again, where no more than `MOST_OPEN` of `!` and `(` are open at once.
 pub fn printed_reads_back()
@@ -14,4 +15,19 @@ pub fn printed_reads_back()
 /// What is read can be printed, so that its text reads back where no more than `MOST_OPEN` are open there.
 pub fn what_is_read_is_printable()
     ensures { (text : List ℕ) (f : Form) → selector_of text ≡ Ok f → IsPrintable f }
+{}
+
+/// What is read is in the grammar, with no more than `MOST_OPEN` of `!` and `(` open at once.
+pub fn what_is_read_is_in_the_grammar()
+    ensures { (text : List ℕ) (f : Form) → selector_of text ≡ Ok f → IsSelectorWithin MOST_OPEN text f }
+{}
+
+/// What is in the grammar is read, where no more than `MOST_OPEN` of `!` and `(` are open at once.
+pub fn what_is_in_the_grammar_is_read()
+    ensures { (text : List ℕ) (f : Form) → IsSelectorWithin MOST_OPEN text f → selector_of text ≡ Ok f }
+{}
+
+/// No text is two selectors of the grammar, however many `!` and `(` are open.
+pub fn one_reading()
+    ensures { (text : List ℕ) (f g : Form) → IsSelector text f → IsSelector text g → f ≡ g }
 {}

@@ -14,7 +14,10 @@ mod token;
 mod word;
 
 pub use fault::{SelectFault, Wanted};
-pub use laws::{printed_reads_back, what_is_read_is_printable};
+pub use laws::{
+    one_reading, printed_reads_back, what_is_in_the_grammar_is_read, what_is_read_is_in_the_grammar,
+    what_is_read_is_printable,
+};
 pub use limits::{MOST_OPEN, WORD_BYTES};
 pub use selector::{Selector, Selectors, Texts};
 pub use word::is_word;
