@@ -198,7 +198,7 @@ no_equals_first (both fs) x p = refl
 no_equals_first (either fs) x p = refl
 
 -- no operand more, where no such mark stands
-none_more : (k : Kind) (one : List ℕ → Read Form) (m : ℕ) (b : List ℕ) → same_kind (lexeme b).kind k ≡ false → others k one m b ≡ Ok ([], b)
+pub none_more : (k : Kind) (one : List ℕ → Read Form) (m : ℕ) (b : List ℕ) → same_kind (lexeme b).kind k ≡ false → others k one m b ≡ Ok ([], b)
 unfolding others
 none_more k one zero b h = refl
 none_more k one (suc m) b h =
@@ -227,11 +227,11 @@ several k make one b r s f g gs first rest =
     ap (λ q. q >>= λ (x : Form × List ℕ). others_from k one x.0 x.1 >>= λ xs. Ok (alone_or make xs.0, xs.1)) first
     ∙ ap (λ q. q >>= (λ (xs : List Form × List ℕ). Ok (f ∷ xs.0, xs.1)) >>= λ (xs : List Form × List ℕ). Ok (alone_or make xs.0, xs.1)) rest
 
-abbrev listing : Forms → List Form
+abbrev pub listing : Forms → List Form
 listing none = []
 listing (more f fs) = f ∷ listing fs
 
-listing_back : (fs : Forms) → forms_of (listing fs) ≡ fs
+pub listing_back : (fs : Forms) → forms_of (listing fs) ≡ fs
 listing_back none = refl
 listing_back (more f fs) = ap (more f) (listing_back fs)
 

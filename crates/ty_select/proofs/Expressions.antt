@@ -1,5 +1,5 @@
 -- What is in the grammar is read.
-use Rattle.std.proofs.Common.{◌≡◌, ℕ, zero, suc, ◌+◌, ◌-◌, ◌≤◌, ◌<◌, List, [], ◌∷◌, ◌++◌, length, take, drop, Bool, true, false, true≢false, ◌==◌, ◌&&◌, not, cond, Ok, Err, Result, Option, Some, None, codes, refl, sym, ap, ◌∙◌, subst, arith, length-append, length-drop, take-append-drop, slice_index}
+use Rattle.std.proofs.Common.{◌≡◌, ℕ, zero, suc, ◌+◌, ◌-◌, ◌≤◌, ◌<◌, List, [], ◌∷◌, ◌++◌, length, take, drop, Bool, true, false, true≢false, ◌==◌, ◌&&◌, not, ◌||◌, cond, Ok, Err, Result, Option, Some, None, codes, refl, sym, ap, ◌∙◌, subst, arith, length-append, length-drop, take-append-drop, slice_index}
 use Rattle.std.proofs.lemmas.Bool.{and_parts}
 use Rattle.std.proofs.lemmas.Bool.Decides.{nat_tests}
 use Rattle.std.specs.List.{prefix_len, position_or_len}
@@ -161,9 +161,9 @@ word_then name w b f same h =
 -- Sets
 
 abbrev further_step : Bool → Bool → ℕ → List ℕ → Read (List (List ℕ))
-further_step ends comma n b =
-    cond ends (Ok ([], (lexeme b).rest))
-    (cond comma (token_text kind.Quoted wanted.Quoted (lexeme b).rest >>= λ t. more_texts n t.1 >>= λ ts. Ok (t.0 ∷ ts.0, ts.1)) (Err (Bad (length (lexeme b).here) wanted.CommaOrBrace)))
+further_step at_end parted n b =
+    cond at_end (Ok ([], (lexeme b).rest))
+    (cond parted (token_text kind.Quoted wanted.Quoted (lexeme b).rest >>= λ t. more_texts n t.1 >>= λ ts. Ok (t.0 ∷ ts.0, ts.1)) (Err (Bad (length (lexeme b).here) wanted.CommaOrBrace)))
 
 further_unfold : (n : ℕ) (b : List ℕ) → more_texts (suc n) b ≡ further_step (same_kind (lexeme b).kind kind.RightBrace) (same_kind (lexeme b).kind kind.Comma) n b
 unfolding more_texts
@@ -180,15 +180,15 @@ further_read (further_text v d) (suc n) b r le h =
     ∙ quoted_then wanted.Quoted (lexeme b).rest v (λ t. more_texts n t.1 >>= λ ts. Ok (t.0 ∷ ts.0, ts.1)) h.1.0
     ∙ ap (λ q. q >>= λ (ts : List (List ℕ) × List ℕ). Ok (v ∷ ts.0, ts.1)) (further_read d n (lexeme (lexeme b).rest).rest r (omega arith) h.1.1)
 
-set_held : List ℕ → Read (List (List ℕ))
+abbrev set_held : List ℕ → Read (List (List ℕ))
 set_held held = cond (same_kind (lexeme held).kind kind.RightBrace) (Ok ([], (lexeme held).rest)) (texts held)
 
 set_opened : (b : List ℕ) → first_terminal b ≡ Some brace → set b ≡ set_held (lexeme b).rest
-unfolding set set_held
+unfolding set
 set_opened b h = mark_then kind.LeftBrace brace wanted.Brace b (λ held. cond (same_kind (lexeme held).kind kind.RightBrace) (Ok ([], (lexeme held).rest)) (texts held)) refl h
 
 set_read : {ts : List Terminal} {vs : List (List ℕ)} → IsSet ts vs → (b r : List ℕ) → BeginsWith b ts r → set b ≡ Ok (vs, r)
-unfolding set_held texts
+unfolding texts
 set_read empty_set b r h =
     set_opened b h.0 ∙ ap (λ c. cond c (Ok ([], (lexeme (lexeme b).rest).rest)) (texts (lexeme b).rest)) (kind_seen (lexeme b).rest end_brace h.1.0 kind.RightBrace) ∙ ap (λ (l : List ℕ). Ok ([], l)) h.1.1
 set_read (set_of_texts v d) b r h =
@@ -260,9 +260,9 @@ membership_read l b r h =
     ∙ mark_then kind.Close end_paren wanted.Close (lexeme b).rest (λ rest. Ok (has l, rest)) refl h.1.0 ∙ ap (λ (c : List ℕ). Ok (has l, c)) h.1.1
 
 abbrev unary_step : Bool → Bool → Bool → Option (List ℕ → Read Form) → List ℕ → Read Form
-unary_step word bang paren inner b =
-    cond word (primary (lexeme b).text (lexeme b).rest) (cond bang (one_deeper inner negation (lexeme b).here (lexeme b).rest)
-    (cond paren (one_deeper inner grouped (lexeme b).here (lexeme b).rest) (Err (Bad (length (lexeme b).here) wanted.Term))))
+unary_step named negates groups inner b =
+    cond named (primary (lexeme b).text (lexeme b).rest) (cond negates (one_deeper inner negation (lexeme b).here (lexeme b).rest)
+    (cond groups (one_deeper inner grouped (lexeme b).here (lexeme b).rest) (Err (Bad (length (lexeme b).here) wanted.Term))))
 
 unary_seen : (inner : Option (List ℕ → Read Form)) (b : List ℕ) (t : Terminal) → first_terminal b ≡ Some t
     → unary_by inner b ≡ unary_step (same_kind (kind_in (Some t)) kind.Word) (same_kind (kind_in (Some t)) kind.Bang) (same_kind (kind_in (Some t)) kind.Open) inner b
@@ -299,6 +299,10 @@ none_there k one m b r e stop = ap (others k one m) e ∙ none_more k one m r st
 before_or : {n : ℕ} {us : List Terminal} {fs : Forms} → AreOrs n us fs → (c r : List ℕ) → BeginsWith c us r → same_kind (lexeme r).kind kind.AndAnd ≡ false → same_kind (lexeme c).kind kind.AndAnd ≡ false
 before_or no_or c r h stop = ap (λ (b : List ℕ). same_kind (lexeme b).kind kind.AndAnd) h ∙ stop
 before_or (further_or d ds) c r h stop = kind_seen c or_sign h.0 kind.AndAnd
+
+closing_read : (c r : List ℕ) → BeginsWith c (end_paren ∷ []) r → mark kind.Close wanted.Close c ≡ Ok r
+unfolding mark
+closing_read c r h = ap (λ v. cond v (Ok (lexeme c).rest) (Err (Bad (length (lexeme c).here) wanted.Close))) (kind_seen c end_paren h.0 kind.Close) ∙ ap (λ (l : List ℕ). Ok l) h.1
 
 mutual
   or_read : {n : ℕ} {ts : List Terminal} {f : Form} → IsOr n ts f → (m : ℕ) (b r : List ℕ) → n ≤ m → BeginsWith b ts r → same_kind (lexeme r).kind kind.OrOr ≡ false → same_kind (lexeme r).kind kind.AndAnd ≡ false
@@ -348,3 +352,42 @@ mutual
   primary_read global_of m b r le h = word_unary (inside m) b (codes "global") h.0 ∙ primary_called (codes "global") (lexeme b).rest h.1.0 ∙ constant_read global (lexeme (lexeme b).rest).rest r h.1.1
   primary_read (has_of l) m b r le h = word_unary (inside m) b (codes "has") h.0 ∙ primary_called (codes "has") (lexeme b).rest h.1.0 ∙ membership_read l (lexeme (lexeme b).rest).rest r h.1.1
   primary_read (test_of l d) m b r le h = word_unary (inside m) b l h.0 ∙ is_tested l (lexeme b).rest (not_called d (lexeme b).rest r h.1) ∙ test_read d (lexeme b).rest r h.1
+
+-- Whole texts
+
+primary_begins : {n : ℕ} {ts : List Terminal} {f : Form} → IsPrimary n ts f → (b r : List ℕ) → BeginsWith b ts r → same_kind (lexeme b).kind kind.End ≡ false
+primary_begins (group_of d) b r h = kind_seen b paren h.0 kind.End
+primary_begins all_of b r h = kind_seen b (a_word (codes "all")) h.0 kind.End
+primary_begins global_of b r h = kind_seen b (a_word (codes "global")) h.0 kind.End
+primary_begins (has_of l) b r h = kind_seen b (a_word (codes "has")) h.0 kind.End
+primary_begins (test_of l d) b r h = kind_seen b (a_word l) h.0 kind.End
+
+unary_begins : {n : ℕ} {ts : List Terminal} {f : Form} → IsUnary n ts f → (b r : List ℕ) → BeginsWith b ts r → same_kind (lexeme b).kind kind.End ≡ false
+unary_begins (negation_of d) b r h = kind_seen b bang h.0 kind.End
+unary_begins (unary_of d) b r h = primary_begins d b r h
+
+and_begins : {n : ℕ} {ts : List Terminal} {f : Form} → IsAnd n ts f → (b r : List ℕ) → BeginsWith b ts r → same_kind (lexeme b).kind kind.End ≡ false
+and_begins (and_of {n} {ts} {us} d ds) b r h = (let (c, first, rest) = begins_split b ts us r h in unary_begins d b c first)
+
+or_begins : {n : ℕ} {ts : List Terminal} {f : Form} → IsOr n ts f → (b r : List ℕ) → BeginsWith b ts r → same_kind (lexeme b).kind kind.End ≡ false
+or_begins (or_of {n} {ts} {us} d ds) b r h = (let (c, first, rest) = begins_split b ts us r h in and_begins d b c first)
+
+abbrev joint : Form × List ℕ → Result Form Stop
+joint x = cond (same_kind (lexeme x.1).kind kind.End) (Ok x.0) (Err (Bad (length (lexeme x.1).here) wanted.Joint))
+
+pub whole_read : {n : ℕ} {ts : List Terminal} {f : Form} → AreTerminals n ts f → (m : ℕ) (b r : List ℕ) → n ≤ m → BeginsWith b ts r → (lexeme r).kind ≡ kind.End → whole_at m b ≡ Ok f
+whole_read blank m b r le h e = ap (λ k. cond (same_kind k kind.End) (Ok all) (disjunction (unary m) b >>= joint)) (ap (λ (x : List ℕ). (lexeme x).kind) h ∙ e)
+whole_read {n} {ts} {f} (filled d) m b r le h e =
+    ap (λ c. cond c (Ok all) (disjunction (unary m) b >>= joint)) (or_begins d b r h)
+    ∙ ap (λ q. q >>= joint) (or_read d m b r le h (ap (λ k. same_kind k kind.OrOr) e) (ap (λ k. same_kind k kind.AndAnd) e))
+    ∙ ap (λ k. cond (same_kind k kind.End) (Ok f) (Err (Bad (length (lexeme r).here) wanted.Joint))) e
+
+pub what_is_said_is_read : (text : List ℕ) (f : Form) → IsSelectorWithin MOST_OPEN text f → selector_of text ≡ Ok f
+unfolding selector_of whole_text
+what_is_said_is_read text f s = ap (from_the_front (length text)) (whole_read s.said MOST_OPEN text s.rest (omega arith) s.begins s.ended)
+
+pub said_once : (text : List ℕ) (f g : Form) → IsSelector text f → IsSelector text g → f ≡ g
+said_once text f g h k =
+    let m = h.0 + k.0 in
+    let same = sym (whole_read h.1.said m text h.1.rest (omega arith) h.1.begins h.1.ended) ∙ whole_read k.1.said m text k.1.rest (omega arith) k.1.begins k.1.ended in
+    cc

@@ -21,7 +21,7 @@ use Rattle.ty_select.specs.Tokens.{lexeme, same_kind, number}
 use Rattle.ty_select.proofs.Tokens.{ascii_nil}
 use Rattle.ty_select.specs.Grammar.{Terminal, a_word, a_text, paren, end_paren, brace, end_brace, comma, bang, not_equal_sign, equal_sign, and_sign, or_sign, IsTerminal, terminal, first_terminal, BeginsWith, AreFurtherTexts, no_text, further_text, IsSet, empty_set, set_of_texts, IsTest, is_equal, is_unequal, is_in, is_not_in, does_contain, starts_with, ends_with, joined, IsOr, or_of, AreOrs, no_or, further_or, IsAnd, and_of, AreAnds, no_and, further_and, IsUnary, negation_of, unary_of, IsPrimary, group_of, all_of, global_of, has_of, test_of, AreTerminals, blank, filled, IsSelectorWithin}
 
-by_cases : {A : Type 0} (P : A → Type 0) (b : Bool) (x y : A) → (b ≡ true → P x) → (b ≡ false → P y) → P (cond b x y)
+pub by_cases : {A : Type 0} (P : A → Type 0) (b : Bool) (x y : A) → (b ≡ true → P x) → (b ≡ false → P y) → P (cond b x y)
 by_cases P true x y h k = h refl
 by_cases P false x y h k = k refl
 

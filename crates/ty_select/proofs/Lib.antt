@@ -1,4 +1,5 @@
 pub mod Back
+pub mod Expressions
 pub mod Grammar
 pub mod Loops
 pub mod Printable

@@ -43,9 +43,9 @@ record IsSound (t : Lexeme) : Type 0 where
   word : same_kind t.kind kind.Word ≡ true → IsLabel t.text
   quoted : same_kind t.kind kind.Quoted ≡ true → IsQuotable t.text
 
-record IsMark (k : Kind) : Type 0 where
-  no_word : same_kind k kind.Word ≡ false
-  no_text : same_kind k kind.Quoted ≡ false
+pub record IsMark (k : Kind) : Type 0 where
+  pub no_word : same_kind k kind.Word ≡ false
+  pub no_text : same_kind k kind.Quoted ≡ false
 
 mark_sound : (t : Lexeme) → IsMark t.kind → IsSound t
 mark_sound t h = record { word = λ e. absurd (true≢false (sym e ∙ h.no_word)); quoted = λ e. absurd (true≢false (sym e ∙ h.no_text)) }
@@ -53,7 +53,7 @@ mark_sound t h = record { word = λ e. absurd (true≢false (sym e ∙ h.no_word
 nothing_sound : (here : List ℕ) → IsSound (nothing kind.Junk here)
 nothing_sound here = mark_sound (nothing kind.Junk here) (record { no_word = refl; no_text = refl })
 
-mark_is : (a b : ℕ) → IsMark (mark_kind a b)
+pub mark_is : (a b : ℕ) → IsMark (mark_kind a b)
 mark_is a b =
     by_cases IsMark (a == 40) _ _ (λ _. record { no_word = refl; no_text = refl }) (λ _.
     by_cases IsMark (a == 41) _ _ (λ _. record { no_word = refl; no_text = refl }) (λ _.

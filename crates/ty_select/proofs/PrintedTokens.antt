@@ -110,7 +110,7 @@ unfolding unary_by
 starts_with_word inner b h l r e =
     ap (λ (t : Lexeme). cond (same_kind t.kind kind.Word) (primary t.text t.rest) (cond (same_kind t.kind kind.Bang) (one_deeper inner negation t.here t.rest) (cond (same_kind t.kind kind.Open) (one_deeper inner grouped t.here t.rest) (Err (Bad (length t.here) wanted.Term))))) e
 
-is_tested : (l r : List ℕ) → same_kind (lexeme r).kind kind.Open ≡ false → primary l r ≡ test l r
+pub is_tested : (l r : List ℕ) → same_kind (lexeme r).kind kind.Open ≡ false → primary l r ≡ test l r
 unfolding primary
 is_tested l r h =
     ap (λ c. cond (c && bytes_eq l (codes "all")) (constant all (lexeme r).rest) (cond (c && bytes_eq l (codes "global")) (constant global (lexeme r).rest) (cond (c && bytes_eq l (codes "has")) (membership (lexeme r).rest) (test l r)))) h
