@@ -1,9 +1,6 @@
 -- What is in the grammar is read.
-use Rattle.std.proofs.Common.{◌≡◌, ℕ, zero, suc, ◌+◌, ◌-◌, ◌≤◌, ◌<◌, List, [], ◌∷◌, ◌++◌, length, take, drop, Bool, true, false, true≢false, ◌==◌, ◌&&◌, not, ◌||◌, cond, Ok, Err, Result, Option, Some, None, codes, refl, sym, ap, ◌∙◌, subst, arith, length-append, length-drop, take-append-drop, slice_index}
-use Rattle.std.proofs.lemmas.Bool.{and_parts}
-use Rattle.std.proofs.lemmas.Bool.Decides.{nat_tests}
-use Rattle.std.specs.List.{prefix_len, position_or_len}
-use Rattle.std.specs.Str.{is_utf8, bytes_eq}
+use Rattle.std.proofs.Common.{◌≡◌, ℕ, zero, suc, ◌+◌, ◌-◌, ◌≤◌, List, [], ◌∷◌, length, Bool, true, false, ◌&&◌, cond, Ok, Err, Result, Option, Some, codes, refl, sym, ap, ◌∙◌, arith, length-append}
+use Rattle.std.specs.Str.{bytes_eq}
 use Rattle.ty_select.specs.declared.limits.TheConstants.{MOST_OPEN}
 use Rattle.ty_select.specs.declared.fault.Stop.{Stop}
 use Rattle.ty_select.specs.declared.fault.Stop.TheVariants.{Bad}
@@ -13,127 +10,14 @@ use Rattle.ty_select.specs.declared.term.Operator.{Operator}
 use Rattle.ty_select.specs.declared.term.Operator.TheVariants.{Equal, Unequal, In, NotIn, Contains, Starts, Ends}
 use Rattle.ty_select.specs.declared.token.Kind.{Kind}
 use Rattle.ty_select.specs.declared.token.Kind.TheVariants as kind
-use Rattle.ty_select.specs.Forms.{Form, all, global, has, equal, unequal, among, not_among, contains, starts, ends, negated, both, either, Forms, none, more, forms_of}
-use Rattle.ty_select.specs.Expressions.{◌>>=◌, Read, mark, token_text, word, more_texts, texts, set, quoted, with_text, with_set, operator_of, operand, tested, test, membership, constant, primary, others, others_from, alone_or, operands, both_of, either_of, conjunction, disjunction, grouped, negation, one_deeper, unary_by, inside, unary, whole_text, from_the_front, selector_of}
-use Rattle.ty_select.specs.Tokens.{Lexeme, lexeme, same_kind, is_blank, is_quote, token_at, word_at, quoted_at, mark_at, mark_kind, width, nothing}
-use Rattle.ty_select.specs.Words.{is_word_byte, is_word}
-use Rattle.ty_select.specs.Grammar.{Terminal, a_word, a_text, paren, end_paren, brace, end_brace, comma, bang, not_equal_sign, equal_sign, and_sign, or_sign, terminal, first_terminal, BeginsWith, AreFurtherTexts, no_text, further_text, IsSet, empty_set, set_of_texts, IsTest, is_equal, is_unequal, is_in, is_not_in, does_contain, starts_with, ends_with, joined, IsOr, or_of, AreOrs, no_or, further_or, IsAnd, and_of, AreAnds, no_and, further_and, IsUnary, negation_of, unary_of, IsPrimary, group_of, all_of, global_of, has_of, test_of, AreTerminals, blank, filled, IsSelectorWithin, IsSelector}
+use Rattle.ty_select.specs.Forms.{Form, all, global, has, equal, unequal, among, not_among, contains, starts, ends, both, either, Forms, none, more, forms_of}
+use Rattle.ty_select.specs.Expressions.{◌>>=◌, Read, mark, token_text, word, more_texts, texts, set, with_text, with_set, operator_of, operand, tested, test, membership, constant, primary, others, others_from, alone_or, operands, both_of, either_of, conjunction, disjunction, grouped, negation, one_deeper, unary_by, inside, unary, whole_text, from_the_front, selector_of}
+use Rattle.ty_select.specs.Tokens.{lexeme, same_kind}
+use Rattle.ty_select.specs.Grammar.{Terminal, a_word, a_text, paren, end_paren, brace, end_brace, comma, bang, not_equal_sign, equal_sign, and_sign, or_sign, first_terminal, BeginsWith, AreFurtherTexts, no_text, further_text, IsSet, empty_set, set_of_texts, IsTest, is_equal, is_unequal, is_in, is_not_in, does_contain, starts_with, ends_with, joined, IsOr, or_of, AreOrs, no_or, further_or, IsAnd, and_of, AreAnds, no_and, further_and, IsUnary, negation_of, unary_of, IsPrimary, group_of, all_of, global_of, has_of, test_of, AreTerminals, blank, filled, IsSelectorWithin, IsSelector}
 use Rattle.ty_select.proofs.Back.{listing, listing_back, none_more}
-use Rattle.ty_select.proofs.Grammar.{by_cases, whole_at}
+use Rattle.ty_select.proofs.Grammar.{whole_at, comma_then, set_held, kind_in, terminal_kind, kind_seen, word_seen, text_seen, begins_split, as_many}
 use Rattle.ty_select.proofs.Loops.{negation_read, group_read}
-use Rattle.ty_select.proofs.Printable.{IsMark, mark_is}
 use Rattle.ty_select.proofs.PrintedTokens.{is_tested}
-
--- Tokens
-
-abbrev kind_in : Option Terminal → Kind
-kind_in None = kind.Junk
-kind_in (Some (a_word w)) = kind.Word
-kind_in (Some (a_text v)) = kind.Quoted
-kind_in (Some paren) = kind.Open
-kind_in (Some end_paren) = kind.Close
-kind_in (Some brace) = kind.LeftBrace
-kind_in (Some end_brace) = kind.RightBrace
-kind_in (Some comma) = kind.Comma
-kind_in (Some bang) = kind.Bang
-kind_in (Some not_equal_sign) = kind.NotEqual
-kind_in (Some equal_sign) = kind.EqualEqual
-kind_in (Some and_sign) = kind.AndAnd
-kind_in (Some or_sign) = kind.OrOr
-
-abbrev text_in : Option Terminal → List ℕ
-text_in (Some (a_word w)) = w
-text_in (Some (a_text v)) = v
-text_in t = []
-
-terminal_kind : (k : Kind) (l : List ℕ) (t : Terminal) → terminal k l ≡ Some t → k ≡ kind_in (Some t)
-terminal_kind kind.Word l t h = ap kind_in h
-terminal_kind kind.Quoted l t h = ap kind_in h
-terminal_kind kind.Open l t h = ap kind_in h
-terminal_kind kind.Close l t h = ap kind_in h
-terminal_kind kind.LeftBrace l t h = ap kind_in h
-terminal_kind kind.RightBrace l t h = ap kind_in h
-terminal_kind kind.Comma l t h = ap kind_in h
-terminal_kind kind.Bang l t h = ap kind_in h
-terminal_kind kind.NotEqual l t h = ap kind_in h
-terminal_kind kind.EqualEqual l t h = ap kind_in h
-terminal_kind kind.AndAnd l t h = ap kind_in h
-terminal_kind kind.OrOr l t h = ap kind_in h
-terminal_kind kind.End l t h = absurd (cc)
-terminal_kind kind.Junk l t h = absurd (cc)
-
--- the kind of the first token, in a test
-kind_seen : (b : List ℕ) (t : Terminal) → first_terminal b ≡ Some t → (j : Kind) → same_kind (lexeme b).kind j ≡ same_kind (kind_in (Some t)) j
-kind_seen b t h j = ap (λ k. same_kind k j) (terminal_kind (lexeme b).kind (lexeme b).text t h)
-
-word_seen : (b w : List ℕ) → first_terminal b ≡ Some (a_word w) → (lexeme b).text ≡ w
-word_seen b w h =
-    let k = terminal_kind (lexeme b).kind (lexeme b).text (a_word w) h in
-    ap text_in (ap (λ j. terminal j (lexeme b).text) (sym k) ∙ h)
-
-text_seen : (b v : List ℕ) → first_terminal b ≡ Some (a_text v) → (lexeme b).text ≡ v
-text_seen b v h =
-    let k = terminal_kind (lexeme b).kind (lexeme b).text (a_text v) h in
-    ap text_in (ap (λ j. terminal j (lexeme b).text) (sym k) ∙ h)
-
-begins_split : (b : List ℕ) (ts us : List Terminal) (r : List ℕ) → BeginsWith b (ts ++ us) r → (c : List ℕ) × BeginsWith b ts c × BeginsWith c us r
-begins_split b [] us r h = (b, refl, h)
-begins_split b (t ∷ ts) us r h =
-    let (c, x, y) = begins_split (lexeme b).rest ts us r h.1 in
-    (c, (h.0, x), y)
-
--- A token takes bytes.
-
-abbrev IsShorter : List ℕ → Lexeme → Type 0
-IsShorter here t = (x : Terminal) → terminal t.kind t.text ≡ Some x → length t.rest < length here
-
-has_width : (k : Kind) (l : List ℕ) (x : Terminal) → IsMark k → terminal k l ≡ Some x → 1 ≤ width k
-has_width kind.Word l x m h = absurd (true≢false m.no_word)
-has_width kind.Quoted l x m h = absurd (true≢false m.no_text)
-has_width kind.Open l x m h = omega arith
-has_width kind.Close l x m h = omega arith
-has_width kind.LeftBrace l x m h = omega arith
-has_width kind.RightBrace l x m h = omega arith
-has_width kind.Comma l x m h = omega arith
-has_width kind.Bang l x m h = omega arith
-has_width kind.NotEqual l x m h = omega arith
-has_width kind.EqualEqual l x m h = omega arith
-has_width kind.AndAnd l x m h = omega arith
-has_width kind.OrOr l x m h = omega arith
-has_width kind.End l x m h = absurd (cc)
-has_width kind.Junk l x m h = absurd (cc)
-
-one_byte : (w : List ℕ) → is_word w ≡ true → 1 ≤ length w
-one_byte [] h = absurd (true≢false (sym h))
-one_byte (x ∷ xs) h = omega arith
-
-not_none : (n : ℕ) → (n == 0) ≡ false → 1 ≤ n
-not_none n h = grind (arith, nat_tests)
-
-token_shorter : (here : List ℕ) → IsShorter here (token_at here)
-token_shorter here =
-    let first : ℕ = slice_index here 0 in
-    let run : ℕ = prefix_len is_word_byte here in
-    let body : List ℕ = drop 1 here in
-    let n : ℕ = position_or_len (λ b. b == first) body in
-    by_cases (IsShorter here) (length here == 0) _ _ (λ _ x h. absurd (cc)) (λ some.
-    by_cases (IsShorter here) (is_word_byte first) _ _
-    (λ _. by_cases (IsShorter here) (is_word (take run here)) _ _
-    (λ e x h. omega (arith, one_byte (take run here) e, length-append (take run here) (drop run here), ap length (take-append-drop run here))) (λ _ x h. absurd (cc))) (λ _.
-    by_cases (IsShorter here) (is_quote first) _ _
-    (λ _. by_cases (IsShorter here) ((n == length body) || not (is_utf8 (take n body))) _ _ (λ _ x h. absurd (cc))
-    (λ _ x h. omega (arith, not_none (length here) some, length-drop 1 here, length-drop (n + 1) body))) (λ _ x h.
-    omega (arith, not_none (length here) some, has_width (mark_kind first (slice_index here 1)) [] x (mark_is first (slice_index here 1)) h, length-drop (width (mark_kind first (slice_index here 1))) here))))
-
-pub shorter : (b : List ℕ) (t : Terminal) → first_terminal b ≡ Some t → length (lexeme b).rest < length b
-unfolding lexeme
-shorter b t h =
-    let front = drop (prefix_len is_blank b) b in
-    omega (arith, token_shorter front t h, length-drop (prefix_len is_blank b) b)
-
-as_many : (b : List ℕ) (ts : List Terminal) (r : List ℕ) → BeginsWith b ts r → length ts + length r ≤ length b
-as_many b [] r h = omega (arith, ap length h)
-as_many b (t ∷ ts) r h = omega (arith, shorter b t h.0, as_many (lexeme b).rest ts r h.1)
 
 -- One token is read
 
@@ -141,17 +25,17 @@ mark_then : {B : Type 0} (k : Kind) (t : Terminal) (w : Wanted) (b : List ℕ) (
 unfolding mark
 mark_then k t w b f is h = ap (λ c. cond c (Ok (lexeme b).rest) (Err (Bad (length (lexeme b).here) w)) >>= f) (kind_seen b t h k ∙ is)
 
-word_text_then : {B : Type 0} (w : Wanted) (b l : List ℕ) (f : List ℕ × List ℕ → Result B Stop) → first_terminal b ≡ Some (a_word l) → (token_text kind.Word w b >>= f) ≡ f (l, (lexeme b).rest)
+pub word_text_then : {B : Type 0} (w : Wanted) (b l : List ℕ) (f : List ℕ × List ℕ → Result B Stop) → first_terminal b ≡ Some (a_word l) → (token_text kind.Word w b >>= f) ≡ f (l, (lexeme b).rest)
 unfolding token_text
 word_text_then w b l f h =
     ap (λ c. cond c (Ok ((lexeme b).text, (lexeme b).rest)) (Err (Bad (length (lexeme b).here) w)) >>= f) (kind_seen b (a_word l) h kind.Word) ∙ ap (λ v. f (v, (lexeme b).rest)) (word_seen b l h)
 
-quoted_then : {B : Type 0} (w : Wanted) (b v : List ℕ) (f : List ℕ × List ℕ → Result B Stop) → first_terminal b ≡ Some (a_text v) → (token_text kind.Quoted w b >>= f) ≡ f (v, (lexeme b).rest)
+pub quoted_then : {B : Type 0} (w : Wanted) (b v : List ℕ) (f : List ℕ × List ℕ → Result B Stop) → first_terminal b ≡ Some (a_text v) → (token_text kind.Quoted w b >>= f) ≡ f (v, (lexeme b).rest)
 unfolding token_text
 quoted_then w b v f h =
     ap (λ c. cond c (Ok ((lexeme b).text, (lexeme b).rest)) (Err (Bad (length (lexeme b).here) w)) >>= f) (kind_seen b (a_text v) h kind.Quoted) ∙ ap (λ v. f (v, (lexeme b).rest)) (text_seen b v h)
 
-word_then : {B : Type 0} (name : List ℕ) (w : Wanted) (b : List ℕ) (f : List ℕ → Result B Stop) → bytes_eq name name ≡ true → first_terminal b ≡ Some (a_word name) → (word name w b >>= f) ≡ f (lexeme b).rest
+pub word_then : {B : Type 0} (name : List ℕ) (w : Wanted) (b : List ℕ) (f : List ℕ → Result B Stop) → bytes_eq name name ≡ true → first_terminal b ≡ Some (a_word name) → (word name w b >>= f) ≡ f (lexeme b).rest
 unfolding word
 word_then name w b f same h =
     ap (λ c. cond (c && bytes_eq (lexeme b).text name) (Ok (lexeme b).rest) (Err (Bad (length (lexeme b).here) w)) >>= f) (kind_seen b (a_word name) h kind.Word)
@@ -163,57 +47,62 @@ word_then name w b f same h =
 abbrev further_step : Bool → Bool → ℕ → List ℕ → Read (List (List ℕ))
 further_step at_end parted n b =
     cond at_end (Ok ([], (lexeme b).rest))
-    (cond parted (token_text kind.Quoted wanted.Quoted (lexeme b).rest >>= λ t. more_texts n t.1 >>= λ ts. Ok (t.0 ∷ ts.0, ts.1)) (Err (Bad (length (lexeme b).here) wanted.CommaOrBrace)))
+    (cond parted (comma_then n (lexeme b).rest) (Err (Bad (length (lexeme b).here) wanted.CommaOrBrace)))
 
 further_unfold : (n : ℕ) (b : List ℕ) → more_texts (suc n) b ≡ further_step (same_kind (lexeme b).kind kind.RightBrace) (same_kind (lexeme b).kind kind.Comma) n b
 unfolding more_texts
 further_unfold n b = refl
 
-further_read : {ts : List Terminal} {vs : List (List ℕ)} → AreFurtherTexts ts vs → (n : ℕ) (b r : List ℕ) → length ts ≤ n → BeginsWith b ts r → more_texts n b ≡ Ok (vs, r)
+pub comma_read : (n : ℕ) (b : List ℕ) → first_terminal b ≡ Some comma → more_texts (suc n) b ≡ comma_then n (lexeme b).rest
+comma_read n b h =
+    further_unfold n b ∙ ap (λ c. further_step c (same_kind (lexeme b).kind kind.Comma) n b) (kind_seen b comma h kind.RightBrace) ∙ ap (λ c. further_step false c n b) (kind_seen b comma h kind.Comma)
+
+pub further_read : {ts : List Terminal} {vs : List (List ℕ)} → AreFurtherTexts ts vs → (n : ℕ) (b r : List ℕ) → length ts ≤ n → BeginsWith b ts r → more_texts n b ≡ Ok (vs, r)
 further_read no_text zero b r le h = absurd (omega arith)
 further_read (further_text v d) zero b r le h = absurd (omega arith)
 further_read no_text (suc n) b r le h =
     further_unfold n b ∙ ap (λ c. further_step c (same_kind (lexeme b).kind kind.Comma) n b) (kind_seen b end_brace h.0 kind.RightBrace) ∙ ap (λ (l : List ℕ). Ok ([], l)) h.1
 further_read (further_text v d) (suc n) b r le h =
-    further_unfold n b ∙ ap (λ c. further_step c (same_kind (lexeme b).kind kind.Comma) n b) (kind_seen b comma h.0 kind.RightBrace)
-    ∙ ap (λ c. further_step false c n b) (kind_seen b comma h.0 kind.Comma)
+    comma_read n b h.0
     ∙ quoted_then wanted.Quoted (lexeme b).rest v (λ t. more_texts n t.1 >>= λ ts. Ok (t.0 ∷ ts.0, ts.1)) h.1.0
     ∙ ap (λ q. q >>= λ (ts : List (List ℕ) × List ℕ). Ok (v ∷ ts.0, ts.1)) (further_read d n (lexeme (lexeme b).rest).rest r (omega arith) h.1.1)
 
-abbrev set_held : List ℕ → Read (List (List ℕ))
-set_held held = cond (same_kind (lexeme held).kind kind.RightBrace) (Ok ([], (lexeme held).rest)) (texts held)
-
-set_opened : (b : List ℕ) → first_terminal b ≡ Some brace → set b ≡ set_held (lexeme b).rest
+pub set_opened : (b : List ℕ) → first_terminal b ≡ Some brace → set b ≡ set_held (lexeme b).rest
 unfolding set
 set_opened b h = mark_then kind.LeftBrace brace wanted.Brace b (λ held. cond (same_kind (lexeme held).kind kind.RightBrace) (Ok ([], (lexeme held).rest)) (texts held)) refl h
 
-set_read : {ts : List Terminal} {vs : List (List ℕ)} → IsSet ts vs → (b r : List ℕ) → BeginsWith b ts r → set b ≡ Ok (vs, r)
+pub texts_opened : (v b : List ℕ) → first_terminal b ≡ Some brace → first_terminal (lexeme b).rest ≡ Some (a_text v)
+    → set b ≡ (more_texts (length (lexeme (lexeme b).rest).rest) (lexeme (lexeme b).rest).rest >>= λ ts. Ok (v ∷ ts.0, ts.1))
 unfolding texts
+texts_opened v b h k =
+    let held = (lexeme b).rest in
+    set_opened b h ∙ ap (λ c. cond c (Ok ([], (lexeme held).rest)) (texts held)) (kind_seen held (a_text v) k kind.RightBrace)
+    ∙ quoted_then wanted.QuotedOrBrace held v (λ t. more_texts (length t.1) t.1 >>= λ ts. Ok (t.0 ∷ ts.0, ts.1)) k
+
+pub set_read : {ts : List Terminal} {vs : List (List ℕ)} → IsSet ts vs → (b r : List ℕ) → BeginsWith b ts r → set b ≡ Ok (vs, r)
 set_read empty_set b r h =
     set_opened b h.0 ∙ ap (λ c. cond c (Ok ([], (lexeme (lexeme b).rest).rest)) (texts (lexeme b).rest)) (kind_seen (lexeme b).rest end_brace h.1.0 kind.RightBrace) ∙ ap (λ (l : List ℕ). Ok ([], l)) h.1.1
 set_read (set_of_texts v d) b r h =
-    let held = (lexeme b).rest in
-    let behind = (lexeme held).rest in
-    set_opened b h.0 ∙ ap (λ c. cond c (Ok ([], behind)) (texts held)) (kind_seen held (a_text v) h.1.0 kind.RightBrace)
-    ∙ quoted_then wanted.QuotedOrBrace held v (λ t. more_texts (length t.1) t.1 >>= λ ts. Ok (t.0 ∷ ts.0, ts.1)) h.1.0
+    let behind = (lexeme (lexeme b).rest).rest in
+    texts_opened v b h.0 h.1.0
     ∙ ap (λ q. q >>= λ (ts : List (List ℕ) × List ℕ). Ok (v ∷ ts.0, ts.1)) (further_read d (length behind) behind r (omega (arith, as_many behind _ r h.1.1)) h.1.1)
 
 -- Tests
 
-text_read : (make : List ℕ → Form) (v b r : List ℕ) → BeginsWith b (a_text v ∷ []) r → with_text make b ≡ Ok (make v, r)
+pub text_read : (make : List ℕ → Form) (v b r : List ℕ) → BeginsWith b (a_text v ∷ []) r → with_text make b ≡ Ok (make v, r)
 text_read make v b r h = quoted_then wanted.Quoted b v (λ t. Ok (make t.0, t.1)) h.0 ∙ ap (λ (l : List ℕ). Ok (make v, l)) h.1
 
-choice_read : {ts : List Terminal} {vs : List (List ℕ)} (make : List (List ℕ) → Form) → IsSet ts vs → (b r : List ℕ) → BeginsWith b ts r → with_set make b ≡ Ok (make vs, r)
+pub choice_read : {ts : List Terminal} {vs : List (List ℕ)} (make : List (List ℕ) → Form) → IsSet ts vs → (b r : List ℕ) → BeginsWith b ts r → with_set make b ≡ Ok (make vs, r)
 choice_read make d b r h = ap (λ q. q >>= λ (ts : List (List ℕ) × List ℕ). Ok (make ts.0, ts.1)) (set_read d b r h)
 
-test_by : (l b : List ℕ) (o : Operator) → operator_of (lexeme b).kind (lexeme b).text ≡ Some o → test l b ≡ operand l o (lexeme b).rest
+pub test_by : (l b : List ℕ) (o : Operator) → operator_of (lexeme b).kind (lexeme b).text ≡ Some o → test l b ≡ operand l o (lexeme b).rest
 unfolding test
 test_by l b o h = ap (λ p. tested l p (lexeme b).here (lexeme b).rest) h
 
-by_mark : (b : List ℕ) (t : Terminal) → first_terminal b ≡ Some t → operator_of (lexeme b).kind (lexeme b).text ≡ operator_of (kind_in (Some t)) (lexeme b).text
+pub by_mark : (b : List ℕ) (t : Terminal) → first_terminal b ≡ Some t → operator_of (lexeme b).kind (lexeme b).text ≡ operator_of (kind_in (Some t)) (lexeme b).text
 by_mark b t h = ap (λ k. operator_of k (lexeme b).text) (terminal_kind (lexeme b).kind (lexeme b).text t h)
 
-by_word : (b w : List ℕ) → first_terminal b ≡ Some (a_word w) → operator_of (lexeme b).kind (lexeme b).text ≡ operator_of kind.Word w
+pub by_word : (b w : List ℕ) → first_terminal b ≡ Some (a_word w) → operator_of (lexeme b).kind (lexeme b).text ≡ operator_of kind.Word w
 by_word b w h = by_mark b (a_word w) h ∙ ap (operator_of kind.Word) (word_seen b w h)
 
 test_read : {l : List ℕ} {ts : List Terminal} {f : Form} → IsTest l ts f → (b r : List ℕ) → BeginsWith b ts r → test l b ≡ Ok (f, r)
@@ -245,15 +134,15 @@ primary_step called name b =
     cond (called && bytes_eq name (codes "all")) (constant all (lexeme b).rest) (cond (called && bytes_eq name (codes "global")) (constant global (lexeme b).rest)
     (cond (called && bytes_eq name (codes "has")) (membership (lexeme b).rest) (test name b)))
 
-primary_called : (name b : List ℕ) → first_terminal b ≡ Some paren → primary name b ≡ primary_step true name b
+pub primary_called : (name b : List ℕ) → first_terminal b ≡ Some paren → primary name b ≡ primary_step true name b
 unfolding primary
 primary_called name b h = ap (λ c. primary_step c name b) (kind_seen b paren h kind.Open)
 
-constant_read : (f : Form) (b r : List ℕ) → BeginsWith b (end_paren ∷ []) r → constant f b ≡ Ok (f, r)
+pub constant_read : (f : Form) (b r : List ℕ) → BeginsWith b (end_paren ∷ []) r → constant f b ≡ Ok (f, r)
 unfolding constant
 constant_read f b r h = mark_then kind.Close end_paren wanted.Close b (λ rest. Ok (f, rest)) refl h.0 ∙ ap (λ (l : List ℕ). Ok (f, l)) h.1
 
-membership_read : (l b r : List ℕ) → BeginsWith b (a_word l ∷ end_paren ∷ []) r → membership b ≡ Ok (has l, r)
+pub membership_read : (l b r : List ℕ) → BeginsWith b (a_word l ∷ end_paren ∷ []) r → membership b ≡ Ok (has l, r)
 unfolding membership
 membership_read l b r h =
     word_text_then wanted.Label b l (λ label. mark kind.Close wanted.Close label.1 >>= λ rest. Ok (has label.0, rest)) h.0
@@ -264,21 +153,24 @@ unary_step named negates groups inner b =
     cond named (primary (lexeme b).text (lexeme b).rest) (cond negates (one_deeper inner negation (lexeme b).here (lexeme b).rest)
     (cond groups (one_deeper inner grouped (lexeme b).here (lexeme b).rest) (Err (Bad (length (lexeme b).here) wanted.Term))))
 
-unary_seen : (inner : Option (List ℕ → Read Form)) (b : List ℕ) (t : Terminal) → first_terminal b ≡ Some t
+pub unary_seen : (inner : Option (List ℕ → Read Form)) (b : List ℕ) (t : Terminal) → first_terminal b ≡ Some t
     → unary_by inner b ≡ unary_step (same_kind (kind_in (Some t)) kind.Word) (same_kind (kind_in (Some t)) kind.Bang) (same_kind (kind_in (Some t)) kind.Open) inner b
 unfolding unary_by
 unary_seen inner b t h = ap (λ k. unary_step (same_kind k kind.Word) (same_kind k kind.Bang) (same_kind k kind.Open) inner b) (terminal_kind (lexeme b).kind (lexeme b).text t h)
 
-word_unary : (inner : Option (List ℕ → Read Form)) (b w : List ℕ) → first_terminal b ≡ Some (a_word w) → unary_by inner b ≡ primary w (lexeme b).rest
+pub word_unary : (inner : Option (List ℕ → Read Form)) (b w : List ℕ) → first_terminal b ≡ Some (a_word w) → unary_by inner b ≡ primary w (lexeme b).rest
 word_unary inner b w h = unary_seen inner b (a_word w) h ∙ ap (λ l. primary l (lexeme b).rest) (word_seen b w h)
 
 -- Operands
 
+pub others_found : (k : Kind) (one : List ℕ → Read Form) (m : ℕ) (b : List ℕ) → same_kind (lexeme b).kind k ≡ true → others k one (suc m) b ≡ (one (lexeme b).rest >>= λ x. others k one m x.1 >>= λ xs. Ok (x.0 ∷ xs.0, xs.1))
+unfolding others
+others_found k one m b found = ap (λ v. cond v (one (lexeme b).rest >>= λ x. others k one m x.1 >>= λ xs. Ok (x.0 ∷ xs.0, xs.1)) (Ok ([], b))) found
+
 others_more : (k : Kind) (one : List ℕ → Read Form) (m : ℕ) (b c s : List ℕ) (f : Form) (fs : List Form) → same_kind (lexeme b).kind k ≡ true → one (lexeme b).rest ≡ Ok (f, c)
     → others k one m c ≡ Ok (fs, s) → others k one (suc m) b ≡ Ok (f ∷ fs, s)
-unfolding others
 others_more k one m b c s f fs found first rest =
-    ap (λ v. cond v (one (lexeme b).rest >>= λ x. others k one m x.1 >>= λ xs. Ok (x.0 ∷ xs.0, xs.1)) (Ok ([], b))) found
+    others_found k one m b found
     ∙ ap (λ q. q >>= λ (x : Form × List ℕ). others k one m x.1 >>= λ xs. Ok (x.0 ∷ xs.0, xs.1)) first
     ∙ ap (λ q. q >>= λ (xs : List Form × List ℕ). Ok (f ∷ xs.0, xs.1)) rest
 
@@ -305,7 +197,7 @@ unfolding mark
 closing_read c r h = ap (λ v. cond v (Ok (lexeme c).rest) (Err (Bad (length (lexeme c).here) wanted.Close))) (kind_seen c end_paren h.0 kind.Close) ∙ ap (λ (l : List ℕ). Ok l) h.1
 
 mutual
-  or_read : {n : ℕ} {ts : List Terminal} {f : Form} → IsOr n ts f → (m : ℕ) (b r : List ℕ) → n ≤ m → BeginsWith b ts r → same_kind (lexeme r).kind kind.OrOr ≡ false → same_kind (lexeme r).kind kind.AndAnd ≡ false
+  pub or_read : {n : ℕ} {ts : List Terminal} {f : Form} → IsOr n ts f → (m : ℕ) (b r : List ℕ) → n ≤ m → BeginsWith b ts r → same_kind (lexeme r).kind kind.OrOr ≡ false → same_kind (lexeme r).kind kind.AndAnd ≡ false
       → disjunction (unary m) b ≡ Ok (f, r)
   or_read (or_of {n} {ts} {us} {f} {fs} d ds) m b r le h no_or_there no_and_there =
       let (c, first, rest) = begins_split b ts us r h in
@@ -322,7 +214,7 @@ mutual
       others_more kind.OrOr (conjunction (unary m)) k b c r f (listing fs) (kind_seen b or_sign h.0 kind.OrOr) (and_read d m (lexeme b).rest c le first (before_or ds c r rest no_and_there))
       (ors_read ds k m c r le (omega (arith, length-append ts us)) rest no_or_there no_and_there)
 
-  and_read : {n : ℕ} {ts : List Terminal} {f : Form} → IsAnd n ts f → (m : ℕ) (b r : List ℕ) → n ≤ m → BeginsWith b ts r → same_kind (lexeme r).kind kind.AndAnd ≡ false → conjunction (unary m) b ≡ Ok (f, r)
+  pub and_read : {n : ℕ} {ts : List Terminal} {f : Form} → IsAnd n ts f → (m : ℕ) (b r : List ℕ) → n ≤ m → BeginsWith b ts r → same_kind (lexeme r).kind kind.AndAnd ≡ false → conjunction (unary m) b ≡ Ok (f, r)
   and_read (and_of {n} {ts} {us} {f} {fs} d ds) m b r le h no_and_there =
       let (c, first, rest) = begins_split b ts us r h in
       operands_read kind.AndAnd both_of (unary m) b c r f (listing fs) (unary_read d m b c le first) (ands_read ds (length c) m c r le (omega (arith, as_many c us r rest)) rest no_and_there)
@@ -337,12 +229,12 @@ mutual
       others_more kind.AndAnd (unary m) k b c r f (listing fs) (kind_seen b and_sign h.0 kind.AndAnd) (unary_read d m (lexeme b).rest c le first)
       (ands_read ds k m c r le (omega (arith, length-append ts us)) rest no_and_there)
 
-  unary_read : {n : ℕ} {ts : List Terminal} {f : Form} → IsUnary n ts f → (m : ℕ) (b r : List ℕ) → n ≤ m → BeginsWith b ts r → unary m b ≡ Ok (f, r)
+  pub unary_read : {n : ℕ} {ts : List Terminal} {f : Form} → IsUnary n ts f → (m : ℕ) (b r : List ℕ) → n ≤ m → BeginsWith b ts r → unary m b ≡ Ok (f, r)
   unary_read (negation_of {n} {ts} {f} d) m b r le h =
       unary_seen (inside m) b bang h.0 ∙ negation_read m (lexeme b).here (lexeme b).rest (omega arith) f r (unary_read d (m - 1) (lexeme b).rest r (omega arith) h.1)
   unary_read (unary_of d) m b r le h = primary_read d m b r le h
 
-  primary_read : {n : ℕ} {ts : List Terminal} {f : Form} → IsPrimary n ts f → (m : ℕ) (b r : List ℕ) → n ≤ m → BeginsWith b ts r → unary m b ≡ Ok (f, r)
+  pub primary_read : {n : ℕ} {ts : List Terminal} {f : Form} → IsPrimary n ts f → (m : ℕ) (b r : List ℕ) → n ≤ m → BeginsWith b ts r → unary m b ≡ Ok (f, r)
   primary_read (group_of {n} {ts} {f} d) m b r le h =
       let (c, held, closed) = begins_split (lexeme b).rest ts (end_paren ∷ []) r h.1 in
       unary_seen (inside m) b paren h.0

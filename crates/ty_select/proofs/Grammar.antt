@@ -1,11 +1,12 @@
 -- What is read is in the grammar, and what stands before a fault begins a selector.
-use Rattle.std.proofs.Common.{◌≡◌, ℕ, zero, suc, List, [], ◌∷◌, ◌++◌, length, Bool, true, false, ◌==◌, ◌&&◌, cond, Ok, Err, Result, Option, Some, None, codes, refl, sym, ap, ◌∙◌, subst, eqb-true, append_assoc, inl}
+use Rattle.std.proofs.Common.{◌≡◌, ℕ, zero, suc, ◌+◌, ◌≤◌, ◌<◌, List, [], ◌∷◌, ◌++◌, length, take, drop, Bool, true, false, true≢false, not, ◌==◌, ◌||◌, ◌&&◌, cond, Ok, Err, Result, Option, Some, None, codes, refl, sym, ap, ◌∙◌, subst, eqb-true, append_assoc, inl, arith, length-append, length-drop, take-append-drop, slice_index}
 use Rattle.std.proofs.lemmas.List.{append-nil}
 use Rattle.std.proofs.lemmas.Bool.{and_parts}
+use Rattle.std.proofs.lemmas.Bool.Decides.{nat_tests}
 use Rattle.std.proofs.lemmas.Slice.Eq.{bytes_eq-Decides}
 use Rattle.std.proofs.lemmas.Str.{IsUtf8-from_ascii, is_utf8-from_IsUtf8}
-use Rattle.std.specs.List.{AllByRecursion}
-use Rattle.std.specs.Str.{bytes_eq}
+use Rattle.std.specs.List.{AllByRecursion, prefix_len, position_or_len}
+use Rattle.std.specs.Str.{is_utf8, bytes_eq}
 use Rattle.ty_select.specs.declared.limits.TheConstants.{MOST_OPEN}
 use Rattle.ty_select.specs.declared.fault.Stop.{Stop}
 use Rattle.ty_select.specs.declared.fault.Stop.TheVariants.{Bad, TooDeep, Spent}
@@ -15,15 +16,13 @@ use Rattle.ty_select.specs.declared.term.Operator.{Operator}
 use Rattle.ty_select.specs.declared.term.Operator.TheVariants.{Equal, Unequal, In, NotIn, Contains, Starts, Ends}
 use Rattle.ty_select.specs.declared.token.Kind.{Kind}
 use Rattle.ty_select.specs.declared.token.Kind.TheVariants as kind
-use Rattle.ty_select.specs.Forms.{Form, all, global, has, equal, unequal, among, not_among, contains, starts, ends, negated, both, either, Forms, none, more, forms_of}
-use Rattle.ty_select.specs.Expressions.{◌>>=◌, Read, mark, token_text, word, more_texts, texts, set, quoted, with_text, with_set, operator_of, operand, tested, test, membership, constant, primary, others, others_from, alone_or, operands, both_of, either_of, conjunction, disjunction, grouped, negation, one_deeper, unary_by, inside, unary, whole_text, from_the_front, selector_of}
-use Rattle.ty_select.specs.Tokens.{lexeme, same_kind, number}
-use Rattle.ty_select.proofs.Tokens.{ascii_nil}
+use Rattle.ty_select.specs.Forms.{Form, all, global, has, equal, unequal, among, not_among, contains, starts, ends, negated, both, either, Forms, forms_of}
+use Rattle.ty_select.specs.Expressions.{◌>>=◌, Read, mark, token_text, word, more_texts, texts, set, with_text, with_set, operator_of, operand, tested, test, membership, constant, primary, others, others_from, alone_or, operands, both_of, either_of, conjunction, disjunction, grouped, negation, one_deeper, unary_by, inside, unary, whole_text, from_the_front, selector_of}
+use Rattle.ty_select.specs.Tokens.{Lexeme, lexeme, same_kind, number, is_blank, is_quote, token_at, mark_kind, width}
+use Rattle.ty_select.specs.Words.{is_word_byte, is_word}
+use Rattle.ty_select.specs.Printable.{IsLabel, IsQuotable}
+use Rattle.ty_select.proofs.Tokens.{ascii_nil, by_cases, IsMark, mark_is, lexeme_sound}
 use Rattle.ty_select.specs.Grammar.{Terminal, a_word, a_text, paren, end_paren, brace, end_brace, comma, bang, not_equal_sign, equal_sign, and_sign, or_sign, IsTerminal, terminal, first_terminal, BeginsWith, AreFurtherTexts, no_text, further_text, IsSet, empty_set, set_of_texts, IsTest, is_equal, is_unequal, is_in, is_not_in, does_contain, starts_with, ends_with, joined, IsOr, or_of, AreOrs, no_or, further_or, IsAnd, and_of, AreAnds, no_and, further_and, IsUnary, negation_of, unary_of, IsPrimary, group_of, all_of, global_of, has_of, test_of, AreTerminals, blank, filled, IsSelectorWithin}
-
-pub by_cases : {A : Type 0} (P : A → Type 0) (b : Bool) (x y : A) → (b ≡ true → P x) → (b ≡ false → P y) → P (cond b x y)
-by_cases P true x y h k = h refl
-by_cases P false x y h k = k refl
 
 -- Kinds and tokens
 
@@ -66,19 +65,138 @@ all_then : (ts us : List Terminal) → AllByRecursion IsTerminal ts → AllByRec
 all_then [] us h k = k
 all_then (t ∷ ts) us h k = (h.0, all_then ts us h.1 k)
 
+abbrev pub kind_in : Option Terminal → Kind
+kind_in None = kind.Junk
+kind_in (Some (a_word w)) = kind.Word
+kind_in (Some (a_text v)) = kind.Quoted
+kind_in (Some paren) = kind.Open
+kind_in (Some end_paren) = kind.Close
+kind_in (Some brace) = kind.LeftBrace
+kind_in (Some end_brace) = kind.RightBrace
+kind_in (Some comma) = kind.Comma
+kind_in (Some bang) = kind.Bang
+kind_in (Some not_equal_sign) = kind.NotEqual
+kind_in (Some equal_sign) = kind.EqualEqual
+kind_in (Some and_sign) = kind.AndAnd
+kind_in (Some or_sign) = kind.OrOr
+
+abbrev pub text_in : Option Terminal → List ℕ
+text_in (Some (a_word w)) = w
+text_in (Some (a_text v)) = v
+text_in t = []
+
+pub terminal_kind : (k : Kind) (l : List ℕ) (t : Terminal) → terminal k l ≡ Some t → k ≡ kind_in (Some t)
+terminal_kind kind.Word l t h = ap kind_in h
+terminal_kind kind.Quoted l t h = ap kind_in h
+terminal_kind kind.Open l t h = ap kind_in h
+terminal_kind kind.Close l t h = ap kind_in h
+terminal_kind kind.LeftBrace l t h = ap kind_in h
+terminal_kind kind.RightBrace l t h = ap kind_in h
+terminal_kind kind.Comma l t h = ap kind_in h
+terminal_kind kind.Bang l t h = ap kind_in h
+terminal_kind kind.NotEqual l t h = ap kind_in h
+terminal_kind kind.EqualEqual l t h = ap kind_in h
+terminal_kind kind.AndAnd l t h = ap kind_in h
+terminal_kind kind.OrOr l t h = ap kind_in h
+terminal_kind kind.End l t h = absurd (cc)
+terminal_kind kind.Junk l t h = absurd (cc)
+
+-- the kind of the first token, in a test
+pub kind_seen : (b : List ℕ) (t : Terminal) → first_terminal b ≡ Some t → (j : Kind) → same_kind (lexeme b).kind j ≡ same_kind (kind_in (Some t)) j
+kind_seen b t h j = ap (λ k. same_kind k j) (terminal_kind (lexeme b).kind (lexeme b).text t h)
+
+pub word_seen : (b w : List ℕ) → first_terminal b ≡ Some (a_word w) → (lexeme b).text ≡ w
+word_seen b w h =
+    let k = terminal_kind (lexeme b).kind (lexeme b).text (a_word w) h in
+    ap text_in (ap (λ j. terminal j (lexeme b).text) (sym k) ∙ h)
+
+pub text_seen : (b v : List ℕ) → first_terminal b ≡ Some (a_text v) → (lexeme b).text ≡ v
+text_seen b v h =
+    let k = terminal_kind (lexeme b).kind (lexeme b).text (a_text v) h in
+    ap text_in (ap (λ j. terminal j (lexeme b).text) (sym k) ∙ h)
+
+pub begins_split : (b : List ℕ) (ts us : List Terminal) (r : List ℕ) → BeginsWith b (ts ++ us) r → (c : List ℕ) × BeginsWith b ts c × BeginsWith c us r
+begins_split b [] us r h = (b, refl, h)
+begins_split b (t ∷ ts) us r h =
+    let (c, x, y) = begins_split (lexeme b).rest ts us r h.1 in
+    (c, (h.0, x), y)
+
+-- A token takes bytes.
+
+abbrev IsShorter : List ℕ → Lexeme → Type 0
+IsShorter here t = (x : Terminal) → terminal t.kind t.text ≡ Some x → length t.rest < length here
+
+has_width : (k : Kind) (l : List ℕ) (x : Terminal) → IsMark k → terminal k l ≡ Some x → 1 ≤ width k
+has_width kind.Word l x m h = absurd (true≢false m.no_word)
+has_width kind.Quoted l x m h = absurd (true≢false m.no_text)
+has_width kind.Open l x m h = omega arith
+has_width kind.Close l x m h = omega arith
+has_width kind.LeftBrace l x m h = omega arith
+has_width kind.RightBrace l x m h = omega arith
+has_width kind.Comma l x m h = omega arith
+has_width kind.Bang l x m h = omega arith
+has_width kind.NotEqual l x m h = omega arith
+has_width kind.EqualEqual l x m h = omega arith
+has_width kind.AndAnd l x m h = omega arith
+has_width kind.OrOr l x m h = omega arith
+has_width kind.End l x m h = absurd (cc)
+has_width kind.Junk l x m h = absurd (cc)
+
+one_byte : (w : List ℕ) → is_word w ≡ true → 1 ≤ length w
+one_byte [] h = absurd (true≢false (sym h))
+one_byte (x ∷ xs) h = omega arith
+
+not_none : (n : ℕ) → (n == 0) ≡ false → 1 ≤ n
+not_none n h = grind (arith, nat_tests)
+
+pub token_shorter : (here : List ℕ) → IsShorter here (token_at here)
+token_shorter here =
+    let first : ℕ = slice_index here 0 in
+    let run : ℕ = prefix_len is_word_byte here in
+    let body : List ℕ = drop 1 here in
+    let n : ℕ = position_or_len (λ b. b == first) body in
+    by_cases (IsShorter here) (length here == 0) _ _ (λ _ x h. absurd (cc)) (λ some.
+    by_cases (IsShorter here) (is_word_byte first) _ _
+    (λ _. by_cases (IsShorter here) (is_word (take run here)) _ _
+    (λ e x h. omega (arith, one_byte (take run here) e, length-append (take run here) (drop run here), ap length (take-append-drop run here))) (λ _ x h. absurd (cc))) (λ _.
+    by_cases (IsShorter here) (is_quote first) _ _
+    (λ _. by_cases (IsShorter here) ((n == length body) || not (is_utf8 (take n body))) _ _ (λ _ x h. absurd (cc))
+    (λ _ x h. omega (arith, not_none (length here) some, length-drop 1 here, length-drop (n + 1) body))) (λ _ x h.
+    omega (arith, not_none (length here) some, has_width (mark_kind first (slice_index here 1)) [] x (mark_is first (slice_index here 1)) h, length-drop (width (mark_kind first (slice_index here 1))) here))))
+
+pub shorter : (b : List ℕ) (t : Terminal) → first_terminal b ≡ Some t → length (lexeme b).rest < length b
+unfolding lexeme
+shorter b t h =
+    let front = drop (prefix_len is_blank b) b in
+    omega (arith, token_shorter front t h, length-drop (prefix_len is_blank b) b)
+
+pub as_many : (b : List ℕ) (ts : List Terminal) (r : List ℕ) → BeginsWith b ts r → length ts + length r ≤ length b
+as_many b [] r h = omega (arith, ap length h)
+as_many b (t ∷ ts) r h = omega (arith, shorter b t h.0, as_many (lexeme b).rest ts r h.1)
+
+-- the tokens of a text are words, quoted texts that can be quoted again, and marks
+terminal_sound : (b : List ℕ) (t : Terminal) → first_terminal b ≡ Some t → IsTerminal t
+terminal_sound b (a_word w) h = subst IsLabel (word_seen b w h) ((lexeme_sound b).word (kind_seen b (a_word w) h kind.Word))
+terminal_sound b (a_text v) h = subst IsQuotable (text_seen b v h) ((lexeme_sound b).quoted (kind_seen b (a_text v) h kind.Quoted))
+terminal_sound b t h = tt
+
+pub all_sound : (b : List ℕ) (ts : List Terminal) (r : List ℕ) → BeginsWith b ts r → AllByRecursion IsTerminal ts
+all_sound b [] r h = tt
+all_sound b (t ∷ ts) r h = (terminal_sound b t h.0, all_sound (lexeme b).rest ts r h.1)
+
 -- What was read is put together so, or it could go on where reading stopped.
 
-record Broke {A : Type 0} (L : List Terminal → A → Type 0) (b : List ℕ) (left : ℕ) : Type 0 where
-  before : List Terminal
-  here : List ℕ
-  after : List Terminal
-  value : A
-  read : BeginsWith b before here
-  place : left ≡ length (lexeme here).here
-  are_terminals : AllByRecursion IsTerminal after
-  goes_on : L (before ++ after) value
+pub record Broke {A : Type 0} (L : List Terminal → A → Type 0) (b : List ℕ) (left : ℕ) : Type 0 where
+  pub before : List Terminal
+  pub here : List ℕ
+  pub after : List Terminal
+  pub value : A
+  pub read : BeginsWith b before here
+  pub place : left ≡ length (lexeme here).here
+  pub are_terminals : AllByRecursion IsTerminal after
+  pub goes_on : L (before ++ after) value
 
-abbrev Explains : {A : Type 0} → (List Terminal → A → Type 0) → List ℕ → Read A → Type 0
+abbrev pub Explains : {A : Type 0} → (List Terminal → A → Type 0) → List ℕ → Read A → Type 0
 Explains L b (Ok y) = (ts : List Terminal) × BeginsWith b ts y.1 × L ts y.0
 Explains L b (Err (Bad left w)) = Broke L b left
 Explains L b (Err (TooDeep left)) = Broke L b left
@@ -169,34 +287,49 @@ after_word L name w b f g go =
 any_text : IsTerminal (a_text [])
 any_text = (is_utf8-from_IsUtf8 [] (IsUtf8-from_ascii [] ascii_nil), inl refl)
 
-further_explained : (n : ℕ) (b : List ℕ) → Explains AreFurtherTexts b (more_texts n b)
+abbrev pub comma_then : ℕ → List ℕ → Read (List (List ℕ))
+comma_then n c = token_text kind.Quoted wanted.Quoted c >>= λ t. more_texts n t.1 >>= λ ts. Ok (t.0 ∷ ts.0, ts.1)
+
+-- behind a comma, where what follows the text is explained
+comma_with : (n : ℕ) → ((c : List ℕ) → Explains AreFurtherTexts c (more_texts n c)) → (b : List ℕ) → Explains (λ ts. AreFurtherTexts (comma ∷ ts)) b (comma_then n b)
+comma_with n rest b =
+    after_text (λ ts. AreFurtherTexts (comma ∷ ts)) kind.Quoted a_text (λ l. refl) wanted.Quoted b
+    (λ t. more_texts n t.1 >>= λ ts. Ok (t.0 ∷ ts.0, ts.1)) (a_text [] ∷ end_brace ∷ [], (any_text, (tt, tt)), [] ∷ [], further_text [] no_text)
+    (λ l c. made AreFurtherTexts (λ ts. AreFurtherTexts (comma ∷ a_text l ∷ ts)) (λ vs. l ∷ vs) (λ ts vs h. further_text l h) c (more_texts n c) (rest c))
+
+pub further_explained : (n : ℕ) (b : List ℕ) → Explains AreFurtherTexts b (more_texts n b)
 unfolding more_texts
 further_explained zero b = stopped AreFurtherTexts b (end_brace ∷ [], (tt, tt), [], no_text)
 further_explained (suc n) b =
     by_cases (Explains AreFurtherTexts b) (same_kind (lexeme b).kind kind.RightBrace) _ _
     (λ e. shift AreFurtherTexts b end_brace (found b kind.RightBrace e) (Ok ([], (lexeme b).rest)) ([], refl, no_text)) (λ _.
     by_cases (Explains AreFurtherTexts b) (same_kind (lexeme b).kind kind.Comma) _ _
-    (λ e. shift AreFurtherTexts b comma (found b kind.Comma e) _
-    (after_text (λ ts. AreFurtherTexts (comma ∷ ts)) kind.Quoted a_text (λ l. refl) wanted.Quoted (lexeme b).rest
-    (λ t. more_texts n t.1 >>= λ ts. Ok (t.0 ∷ ts.0, ts.1)) (a_text [] ∷ end_brace ∷ [], (any_text, (tt, tt)), [] ∷ [], further_text [] no_text)
-    (λ l c. made AreFurtherTexts (λ ts. AreFurtherTexts (comma ∷ a_text l ∷ ts)) (λ vs. l ∷ vs) (λ ts vs h. further_text l h) c (more_texts n c) (further_explained n c))))
+    (λ e. shift AreFurtherTexts b comma (found b kind.Comma e) (comma_then n (lexeme b).rest) (comma_with n (λ c. further_explained n c) (lexeme b).rest))
     (λ _. stopped AreFurtherTexts b (end_brace ∷ [], (tt, tt), [], no_text)))
 
-set_explained : (b : List ℕ) → Explains IsSet b (set b)
-unfolding set texts
-set_explained b =
-    after_mark IsSet kind.LeftBrace brace (λ l. refl) wanted.Brace b
-    (λ held. cond (same_kind (lexeme held).kind kind.RightBrace) (Ok ([], (lexeme held).rest)) (texts held)) (brace ∷ end_brace ∷ [], (tt, (tt, tt)), [], empty_set)
-    (λ held. by_cases (Explains (λ ts. IsSet (brace ∷ ts)) held) (same_kind (lexeme held).kind kind.RightBrace) _ _
+pub comma_explained : (n : ℕ) (b : List ℕ) → Explains (λ ts. AreFurtherTexts (comma ∷ ts)) b (comma_then n b)
+comma_explained n b = comma_with n (further_explained n) b
+
+abbrev pub set_held : List ℕ → Read (List (List ℕ))
+set_held held = cond (same_kind (lexeme held).kind kind.RightBrace) (Ok ([], (lexeme held).rest)) (texts held)
+
+pub held_explained : (held : List ℕ) → Explains (λ ts. IsSet (brace ∷ ts)) held (set_held held)
+unfolding texts
+held_explained held =
+    by_cases (Explains (λ ts. IsSet (brace ∷ ts)) held) (same_kind (lexeme held).kind kind.RightBrace) _ _
     (λ e. shift (λ ts. IsSet (brace ∷ ts)) held end_brace (found held kind.RightBrace e) (Ok ([], (lexeme held).rest)) ([], refl, empty_set))
     (λ _. after_text (λ ts. IsSet (brace ∷ ts)) kind.Quoted a_text (λ l. refl) wanted.QuotedOrBrace held
     (λ t. more_texts (length t.1) t.1 >>= λ ts. Ok (t.0 ∷ ts.0, ts.1)) (end_brace ∷ [], (tt, tt), [], empty_set)
-    (λ l c. made AreFurtherTexts (λ ts. IsSet (brace ∷ a_text l ∷ ts)) (λ vs. l ∷ vs) (λ ts vs h. set_of_texts l h) c (more_texts (length c) c) (further_explained (length c) c))))
+    (λ l c. made AreFurtherTexts (λ ts. IsSet (brace ∷ a_text l ∷ ts)) (λ vs. l ∷ vs) (λ ts vs h. set_of_texts l h) c (more_texts (length c) c) (further_explained (length c) c)))
+
+pub set_explained : (b : List ℕ) → Explains IsSet b (set b)
+unfolding set
+set_explained b = after_mark IsSet kind.LeftBrace brace (λ l. refl) wanted.Brace b set_held (brace ∷ end_brace ∷ [], (tt, (tt, tt)), [], empty_set) held_explained
 
 abbrev quoted_empty : List Terminal
 quoted_empty = a_text [] ∷ []
 
-text_explained : (L : List Terminal → Form → Type 0) (make : List ℕ → Form) → ((v : List ℕ) → L (a_text v ∷ []) (make v)) → (b : List ℕ) → Explains L b (with_text make b)
+pub text_explained : (L : List Terminal → Form → Type 0) (make : List ℕ → Form) → ((v : List ℕ) → L (a_text v ∷ []) (make v)) → (b : List ℕ) → Explains L b (with_text make b)
 text_explained L make h b =
     after_text L kind.Quoted a_text (λ l. refl) wanted.Quoted b (λ t. Ok (make t.0, t.1)) (quoted_empty, (any_text, tt), make [], h []) (λ l c. ([], refl, h l))
 
@@ -210,7 +343,7 @@ sign Contains = a_word (codes "contains")
 sign Starts = a_word (codes "starts")
 sign Ends = a_word (codes "ends")
 
-operand_explained : (l : List ℕ) (o : Operator) (b : List ℕ) → Explains (λ ts. IsTest l (sign o ∷ ts)) b (operand l o b)
+pub operand_explained : (l : List ℕ) (o : Operator) (b : List ℕ) → Explains (λ ts. IsTest l (sign o ∷ ts)) b (operand l o b)
 operand_explained l Equal b = text_explained (λ ts. IsTest l (equal_sign ∷ ts)) (equal l) is_equal b
 operand_explained l Unequal b = text_explained (λ ts. IsTest l (not_equal_sign ∷ ts)) (unequal l) is_unequal b
 operand_explained l In b = made IsSet (λ ts. IsTest l (a_word (codes "in") ∷ ts)) (among l) (λ ts vs h. is_in h) b (set b) (set_explained b)
@@ -258,18 +391,18 @@ test_explained : (l b : List ℕ) → Explains (IsTest l) b (test l b)
 unfolding test
 test_explained l b = tested_explained l b (operator_of (lexeme b).kind (lexeme b).text) (operator_signs (lexeme b).kind (lexeme b).text)
 
-constant_explained : (L : List Terminal → Form → Type 0) (f : Form) → L (end_paren ∷ []) f → (b : List ℕ) → Explains L b (constant f b)
+pub constant_explained : (L : List Terminal → Form → Type 0) (f : Form) → L (end_paren ∷ []) f → (b : List ℕ) → Explains L b (constant f b)
 unfolding constant
 constant_explained L f h b = after_mark L kind.Close end_paren (λ l. refl) wanted.Close b (λ rest. Ok (f, rest)) (end_paren ∷ [], (tt, tt), f, h) (λ c. ([], refl, h))
 
-membership_explained : (L : List Terminal → Form → Type 0) → ((l : List ℕ) → L (a_word l ∷ end_paren ∷ []) (has l)) → (b : List ℕ) → Explains L b (membership b)
+pub membership_explained : (L : List Terminal → Form → Type 0) → ((l : List ℕ) → L (a_word l ∷ end_paren ∷ []) (has l)) → (b : List ℕ) → Explains L b (membership b)
 unfolding membership
 membership_explained L h b =
     after_text L kind.Word a_word (λ l. refl) wanted.Label b (λ label. mark kind.Close wanted.Close label.1 >>= λ rest. Ok (has label.0, rest))
     (a_word (codes "a") ∷ end_paren ∷ [], (refl, (tt, tt)), has (codes "a"), h (codes "a"))
     (λ l c. after_mark (λ ts. L (a_word l ∷ ts)) kind.Close end_paren (λ l. refl) wanted.Close c (λ rest. Ok (has l, rest)) (end_paren ∷ [], (tt, tt), has l, h l) (λ d. ([], refl, h l)))
 
-primary_explained : (n : ℕ) (name b : List ℕ) → Explains (λ ts. IsPrimary n (a_word name ∷ ts)) b (primary name b)
+pub primary_explained : (n : ℕ) (name b : List ℕ) → Explains (λ ts. IsPrimary n (a_word name ∷ ts)) b (primary name b)
 unfolding primary
 primary_explained n name b =
     let P : Read Form → Type 0 = Explains (λ ts. IsPrimary n (a_word name ∷ ts)) b in
@@ -319,19 +452,25 @@ alone_joined node f [] = refl
 alone_joined node f (g ∷ gs) = refl
 
 module _ (n : ℕ) (one : List ℕ → Read Form) (each : (b : List ℕ) → Explains (IsUnary n) b (one b)) where
-  conjunction_explained : (b : List ℕ) → Explains (IsAnd n) b (conjunction one b)
+  pub ands_explained : (m : ℕ) (b : List ℕ) → Explains (λ ts fs. AreAnds n ts (forms_of fs)) b (others kind.AndAnd one m b)
+  ands_explained m b = others_explained kind.AndAnd and_sign (λ l. refl) one (IsUnary n) each (λ ts fs. AreAnds n ts (forms_of fs)) no_and (λ ts us f fs p q. further_and p q) m b
+
+  pub conjunction_explained : (b : List ℕ) → Explains (IsAnd n) b (conjunction one b)
   conjunction_explained b =
       operands_explained kind.AndAnd and_sign (λ l. refl) one (IsUnary n) each (λ ts fs. AreAnds n ts (forms_of fs)) no_and (λ ts us f fs p q. further_and p q) both_of (IsAnd n)
       (λ ts us f fs p q. subst (IsAnd n (ts ++ us)) (alone_joined both f fs) (and_of p q)) b
 
-  disjunction_explained : (b : List ℕ) → Explains (IsOr n) b (disjunction one b)
+  pub ors_explained : (m : ℕ) (b : List ℕ) → Explains (λ ts fs. AreOrs n ts (forms_of fs)) b (others kind.OrOr (conjunction one) m b)
+  ors_explained m b = others_explained kind.OrOr or_sign (λ l. refl) (conjunction one) (IsAnd n) conjunction_explained (λ ts fs. AreOrs n ts (forms_of fs)) no_or (λ ts us f fs p q. further_or p q) m b
+
+  pub disjunction_explained : (b : List ℕ) → Explains (IsOr n) b (disjunction one b)
   disjunction_explained b =
       operands_explained kind.OrOr or_sign (λ l. refl) (conjunction one) (IsAnd n) conjunction_explained (λ ts fs. AreOrs n ts (forms_of fs)) no_or (λ ts us f fs p q. further_or p q) either_of (IsOr n)
       (λ ts us f fs p q. subst (IsOr n (ts ++ us)) (alone_joined either f fs) (or_of p q)) b
 
 -- Levels
 
-abbrev InnerExplains : ℕ → Option (List ℕ → Read Form) → Type 0
+abbrev pub InnerExplains : ℕ → Option (List ℕ → Read Form) → Type 0
 InnerExplains n None = Unit {0}
 InnerExplains zero (Some one) = ⊥
 InnerExplains (suc m) (Some one) = (b : List ℕ) → Explains (IsUnary m) b (one b)
@@ -355,7 +494,7 @@ group_explained (suc m) (Some one) i b h =
     (λ ts y p. after_mark (λ us. IsUnary (suc m) (paren ∷ (ts ++ us))) kind.Close end_paren (λ l. refl) wanted.Close y.1 (λ rest. Ok (y.0, rest)) (end_paren ∷ [], (tt, tt), y.0, unary_of (group_of p))
     (λ c. ([], refl, unary_of (group_of p)))))
 
-unary_explained : (n : ℕ) (inner : Option (List ℕ → Read Form)) → InnerExplains n inner → (b : List ℕ) → Explains (IsUnary n) b (unary_by inner b)
+pub unary_explained : (n : ℕ) (inner : Option (List ℕ → Read Form)) → InnerExplains n inner → (b : List ℕ) → Explains (IsUnary n) b (unary_by inner b)
 unfolding unary_by
 unary_explained n inner i b =
     let P : Read Form → Type 0 = Explains (IsUnary n) b in
@@ -366,14 +505,17 @@ unary_explained n inner i b =
     by_cases P (same_kind (lexeme b).kind kind.Bang) _ _ (λ e. negation_explained n inner i b (found b kind.Bang e)) (λ _.
     by_cases P (same_kind (lexeme b).kind kind.Open) _ _ (λ e. group_explained n inner i b (found b kind.Open e)) (λ _. stopped (IsUnary n) b (any_unary n))))
 
-inside_explains : (n : ℕ) → InnerExplains n (inside n)
+pub inside_explains : (n : ℕ) → InnerExplains n (inside n)
 unfolding inside
 inside_explains zero = tt
 inside_explains (suc n) = unary_explained n (inside n) (inside_explains n)
 
+pub unary_is : (n : ℕ) (b : List ℕ) → Explains (IsUnary n) b (unary n b)
+unary_is n = unary_explained n (inside n) (inside_explains n)
+
 -- Whole texts
 
-abbrev TextExplains : ℕ → List ℕ → Result Form Stop → Type 0
+abbrev pub TextExplains : ℕ → List ℕ → Result Form Stop → Type 0
 TextExplains n b (Ok f) = IsSelectorWithin n b f
 TextExplains n b (Err (Bad left w)) = Broke (AreTerminals n) b left
 TextExplains n b (Err (TooDeep left)) = Broke (AreTerminals n) b left
@@ -385,11 +527,11 @@ whole_at n b =
     cond (same_kind (lexeme b).kind kind.End) (Ok all)
     (disjunction (unary n) b >>= λ x. cond (same_kind (lexeme x.1).kind kind.End) (Ok x.0) (Err (Bad (length (lexeme x.1).here) wanted.Joint)))
 
-whole_explained : (n : ℕ) (b : List ℕ) → TextExplains n b (whole_at n b)
+pub whole_explained : (n : ℕ) (b : List ℕ) → TextExplains n b (whole_at n b)
 whole_explained n b =
     by_cases (TextExplains n b) (same_kind (lexeme b).kind kind.End) _ _
     (λ e. record { tokens = []; rest = b; begins = refl; ended = kind_is (lexeme b).kind kind.End e; said = blank })
-    (λ _. ended (disjunction (unary n) b) (disjunction_explained n (unary n) (unary_explained n (inside n) (inside_explains n)) b))
+    (λ _. ended (disjunction (unary n) b) (disjunction_explained n (unary n) (unary_is n) b))
   where
     ended : (r : Read Form) → Explains (IsOr n) b r → TextExplains n b (r >>= λ x. cond (same_kind (lexeme x.1).kind kind.End) (Ok x.0) (Err (Bad (length (lexeme x.1).here) wanted.Joint)))
     ended (Ok y) e =

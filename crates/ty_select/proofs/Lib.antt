@@ -2,6 +2,7 @@ pub mod Back
 pub mod Expressions
 pub mod Grammar
 pub mod Loops
+pub mod Places
 pub mod Printable
 pub mod Printed
 pub mod PrintedTokens

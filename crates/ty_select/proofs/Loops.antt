@@ -183,7 +183,7 @@ pub too_deep : (held : (List ℕ → Read Form) → List ℕ → Read Form) (lev
 unfolding inside
 too_deep held levels here bytes e = ap (λ n. one_deeper (inside n) held here bytes) e
 
-one_more : (held : (List ℕ → Read Form) → List ℕ → Read Form) (levels : ℕ) (here bytes : List ℕ) → 0 < levels → one_deeper (inside levels) held here bytes ≡ held (unary (levels - 1)) bytes
+pub one_more : (held : (List ℕ → Read Form) → List ℕ → Read Form) (levels : ℕ) (here bytes : List ℕ) → 0 < levels → one_deeper (inside levels) held here bytes ≡ held (unary (levels - 1)) bytes
 unfolding inside
 one_more held levels here bytes lt =
     let n : levels ≡ suc (levels - 1) = omega arith in

@@ -1,14 +1,17 @@
 -- How words and quoted texts are cut out.
-use Rattle.std.proofs.Common.{◌≡◌, ℕ, zero, suc, ◌+◌, ◌<◌, List, [], ◌∷◌, length, take, drop, Bool, true, false, not, ◌==◌, ◌||◌, ◌&&◌, cond, refl, sym, ap, ◌∙◌, subst, arith}
-use Rattle.std.specs.List.{list_all, prefix_len, position_or_len, take_while}
+use Rattle.std.proofs.Common.{◌≡◌, ℕ, zero, suc, ◌+◌, ◌<◌, List, [], ◌∷◌, length, take, drop, Bool, true, false, true≢false, not, ◌==◌, ◌||◌, ◌&&◌, cond, refl, sym, ap, ◌∙◌, subst, arith, eqb-true, inl, inr, slice_index}
+use Rattle.std.specs.List.{list_all, list_any, prefix_len, position_or_len, take_while}
 use Rattle.std.specs.Str.{IsAscii, IsUtf8, is_utf8}
 use Rattle.std.proofs.lemmas.List.Sums.{take_while-cons}
 use Rattle.std.proofs.lemmas.List.Folds.{length-prefix_len}
 use Rattle.std.proofs.lemmas.Bool.{and_from}
 use Rattle.std.proofs.lemmas.Str.{IsUtf8-from_ascii, is_utf8-from_IsUtf8, IsUtf8-from_is_utf8}
 use Rattle.std.proofs.lemmas.Bool.Decides.{nat_tests}
+use Rattle.ty_select.specs.declared.token.Kind.{Kind}
+use Rattle.ty_select.specs.declared.token.Kind.TheVariants as kind
 use Rattle.ty_select.specs.declared.token.Kind.TheVariants.{Word, Quoted, Junk}
-use Rattle.ty_select.specs.Tokens.{Lexeme, nothing, word_at, quoted_at}
+use Rattle.ty_select.specs.Printable.{IsLabel, IsQuotable}
+use Rattle.ty_select.specs.Tokens.{Lexeme, lexeme, nothing, word_at, quoted_at, same_kind, is_blank, is_quote, token_at, mark_at, mark_kind}
 use Rattle.ty_select.specs.Words.{is_word_byte, is_word_len, is_word}
 
 and_true : (b : Bool) → (b && true) ≡ b
@@ -101,3 +104,87 @@ quoted_other here body quote n b e lt u =
     opened here body quote n b e
     ∙ ap (λ b. cut here body n b (is_utf8 (take n body))) ends
     ∙ ap (λ b. cut here body n false b) (not_utf8 _ u)
+
+pub by_cases : {A : Type 0} (P : A → Type 0) (b : Bool) (x y : A) → (b ≡ true → P x) → (b ≡ false → P y) → P (cond b x y)
+by_cases P true x y h k = h refl
+by_cases P false x y h k = k refl
+
+-- What a token's text is
+
+-- the text of a word is a word, and a quoted text can be quoted again
+pub record IsSound (t : Lexeme) : Type 0 where
+  pub word : same_kind t.kind kind.Word ≡ true → IsLabel t.text
+  pub quoted : same_kind t.kind kind.Quoted ≡ true → IsQuotable t.text
+
+pub record IsMark (k : Kind) : Type 0 where
+  pub no_word : same_kind k kind.Word ≡ false
+  pub no_text : same_kind k kind.Quoted ≡ false
+
+mark_sound : (t : Lexeme) → IsMark t.kind → IsSound t
+mark_sound t h = record { word = λ e. absurd (true≢false (sym e ∙ h.no_word)); quoted = λ e. absurd (true≢false (sym e ∙ h.no_text)) }
+
+nothing_sound : (here : List ℕ) → IsSound (nothing kind.Junk here)
+nothing_sound here = mark_sound (nothing kind.Junk here) (record { no_word = refl; no_text = refl })
+
+pub mark_is : (a b : ℕ) → IsMark (mark_kind a b)
+mark_is a b =
+    by_cases IsMark (a == 40) _ _ (λ _. record { no_word = refl; no_text = refl }) (λ _.
+    by_cases IsMark (a == 41) _ _ (λ _. record { no_word = refl; no_text = refl }) (λ _.
+    by_cases IsMark (a == 123) _ _ (λ _. record { no_word = refl; no_text = refl }) (λ _.
+    by_cases IsMark (a == 125) _ _ (λ _. record { no_word = refl; no_text = refl }) (λ _.
+    by_cases IsMark (a == 44) _ _ (λ _. record { no_word = refl; no_text = refl }) (λ _.
+    by_cases IsMark (a == 33) _ _ (λ _.
+    by_cases IsMark (b == 61) _ _ (λ _. record { no_word = refl; no_text = refl }) (λ _. record { no_word = refl; no_text = refl })) (λ _.
+    by_cases IsMark ((a == 61) && (b == 61)) _ _ (λ _. record { no_word = refl; no_text = refl }) (λ _.
+    by_cases IsMark ((a == 38) && (b == 38)) _ _ (λ _. record { no_word = refl; no_text = refl }) (λ _.
+    by_cases IsMark ((a == 124) && (b == 124)) _ _ (λ _. record { no_word = refl; no_text = refl }) (λ _.
+    record { no_word = refl; no_text = refl })))))))))
+
+word_sound : (here : List ℕ) → IsSound (word_at here)
+word_sound here =
+    by_cases IsSound (is_word (take (prefix_len is_word_byte here) here)) _ _
+    (λ e. record { word = λ _. e; quoted = λ f. absurd (true≢false (sym f)) }) (λ _. nothing_sound here)
+
+-- what stands before a quote lacks it
+lacks : (q : ℕ) (xs : List ℕ) → list_any (λ b. b == q) (take (position_or_len (λ b. b == q) xs) xs) ≡ false
+lacks q [] = refl
+lacks q (b ∷ bs) =
+    let p : ℕ → Bool = λ c. c == q in
+    let n : ℕ = position_or_len p bs in
+    elim (b == q) as (λ t. (b == q) ≡ t → list_any p (take (cond (not t) (1 + n) 0) (b ∷ bs)) ≡ false) [
+      | true ↦ λ _. refl
+      | false ↦ λ e.
+          let more : 1 + n ≡ suc n = omega arith in
+          ap (λ k. list_any p (take k (b ∷ bs))) more ∙ ap (λ t. t || list_any p (take n bs)) e ∙ lacks q bs
+    ] refl
+
+utf8_of : (a b : Bool) → (a || not b) ≡ false → b ≡ true
+utf8_of true b e = absurd (true≢false e)
+utf8_of false true e = refl
+utf8_of false false e = absurd (true≢false e)
+
+quotable : (q : ℕ) (v : List ℕ) → is_quote q ≡ true → is_utf8 v ≡ true → list_any (λ b. b == q) v ≡ false → IsQuotable v
+quotable q v h utf8 none_of =
+    elim (q == 39) as (λ t. (q == 39) ≡ t → (t || (q == 34)) ≡ true → IsQuotable v) [
+      | true ↦ λ e _. (utf8, inl (subst (λ (k : ℕ). list_any (λ b. b == k) v ≡ false) (eqb-true q 39 e) none_of))
+      | false ↦ λ _ e. (utf8, inr (subst (λ (k : ℕ). list_any (λ b. b == k) v ≡ false) (eqb-true q 34 e) none_of))
+    ] refl h
+
+quoted_sound : (here : List ℕ) (q : ℕ) → is_quote q ≡ true → IsSound (quoted_at here q)
+quoted_sound here q h =
+    let body : List ℕ = drop 1 here in
+    let n : ℕ = position_or_len (λ b. b == q) body in
+    by_cases IsSound ((n == length body) || not (is_utf8 (take n body))) _ _ (λ _. nothing_sound here)
+    (λ e. record { word = λ f. absurd (true≢false (sym f)); quoted = λ _. quotable q (take n body) h (utf8_of (n == length body) (is_utf8 (take n body)) e) (lacks q body) })
+
+token_sound : (here : List ℕ) → IsSound (token_at here)
+token_sound here =
+    let first : ℕ = slice_index here 0 in
+    by_cases IsSound (length here == 0) _ _ (λ _. mark_sound (nothing kind.End here) (record { no_word = refl; no_text = refl })) (λ _.
+    by_cases IsSound (is_word_byte first) _ _ (λ _. word_sound here) (λ _.
+    by_cases IsSound (is_quote first) _ _ (λ e. quoted_sound here first e) (λ _.
+    mark_sound (mark_at here) (mark_is first (slice_index here 1)))))
+
+pub lexeme_sound : (bytes : List ℕ) → IsSound (lexeme bytes)
+unfolding lexeme
+lexeme_sound bytes = token_sound (drop (prefix_len is_blank bytes) bytes)

@@ -1,6 +1,7 @@
 pub mod Expressions
 pub mod Forms
 pub mod Grammar
+pub mod Places
 pub mod Printable
 pub mod Text
 pub mod Tokens

@@ -1,11 +1,14 @@
 // Laws of the definitions, for every selector.
-ghost use Rattle.std.specs.Prelude.{◌≡◌, ◌≤◌, List, ℕ, Ok};
+ghost use Rattle.std.specs.Prelude.{◌≡◌, ◌≤◌, List, ℕ, Ok, Err};
 ghost use Rattle.ty_select.specs.declared.limits.TheConstants.{MOST_OPEN};
 ghost use Rattle.ty_select.specs.Forms.{Form};
 ghost use Rattle.ty_select.specs.Printable.{IsPrintable};
 ghost use Rattle.ty_select.specs.Text.{printed, depth};
 ghost use Rattle.ty_select.specs.Expressions.{selector_of};
 ghost use Rattle.ty_select.specs.Grammar.{IsSelector, IsSelectorWithin};
+ghost use Rattle.ty_select.specs.Places.{IsFaultPlace};
+ghost use Rattle.ty_select.specs.declared.fault.SelectFault.TheVariants.{Bad, TooDeep};
+ghost use Rattle.ty_select.specs.declared.fault.Wanted.{Wanted};
 
 /// What is printed is read again, where no more than `MOST_OPEN` of `!` and `(` are open at once.
 pub fn printed_reads_back()
@@ -30,4 +33,11 @@ pub fn what_is_in_the_grammar_is_read()
 /// No text is two selectors of the grammar, however many `!` and `(` are open.
 pub fn one_reading()
     ensures { (text : List ℕ) (f g : Form) → IsSelector text f → IsSelector text g → f ≡ g }
+{}
+
+/// A fault stands where the tokens before it begin a selector with no more than `MOST_OPEN` of `!` and `(` open at
+/// once, and those up to it begin none.
+pub fn faults_stand_where_no_selector_goes_on()
+    ensures bad { (text : List ℕ) (place : ℕ) (wanted : Wanted) → selector_of text ≡ Err (Bad place wanted) → IsFaultPlace MOST_OPEN text place }
+    ensures too_deep { (text : List ℕ) (place : ℕ) → selector_of text ≡ Err (TooDeep place) → IsFaultPlace MOST_OPEN text place }
 {}
