@@ -13,9 +13,11 @@ use Rattle.ty_select.specs.declared.token.Kind.TheVariants as kind
 use Rattle.ty_select.specs.Forms.{Form, all, global, has, equal, unequal, among, not_among, contains, starts, ends, both, either, Forms, none, more, forms_of}
 use Rattle.ty_select.specs.Expressions.{◌>>=◌, Read, mark, token_text, word, more_texts, texts, set, with_text, with_set, operator_of, operand, tested, test, membership, constant, primary, others, others_from, alone_or, operands, both_of, either_of, conjunction, disjunction, grouped, negation, one_deeper, unary_by, inside, unary, whole_text, from_the_front, selector_of}
 use Rattle.ty_select.specs.Tokens.{lexeme, same_kind}
-use Rattle.ty_select.specs.Grammar.{Terminal, a_word, a_text, paren, end_paren, brace, end_brace, comma, bang, not_equal_sign, equal_sign, and_sign, or_sign, first_terminal, BeginsWith, AreFurtherTexts, no_text, further_text, IsSet, empty_set, set_of_texts, IsTest, is_equal, is_unequal, is_in, is_not_in, does_contain, starts_with, ends_with, joined, IsOr, or_of, AreOrs, no_or, further_or, IsAnd, and_of, AreAnds, no_and, further_and, IsUnary, negation_of, unary_of, IsPrimary, group_of, all_of, global_of, has_of, test_of, AreTerminals, blank, filled, IsSelectorWithin, IsSelector}
+use Rattle.ty_select.specs.Grammar.{AreFurtherTexts, no_text, further_text, IsSet, empty_set, set_of_texts, IsTest, is_equal, is_unequal, is_in, is_not_in, does_contain, starts_with, ends_with, joined, IsOr, or_of, AreOrs, no_or, further_or, IsAnd, and_of, AreAnds, no_and, further_and, IsUnary, negation_of, unary_of, IsPrimary, group_of, all_of, global_of, has_of, test_of, AreTerminals, blank, filled, IsSelectorWithin, IsSelector}
+use Rattle.ty_select.specs.Terminals.{Terminal, a_word, a_text, paren, end_paren, brace, end_brace, comma, bang, not_equal_sign, equal_sign, and_sign, or_sign, first_terminal, BeginsWith}
 use Rattle.ty_select.proofs.Back.{listing, listing_back, none_more}
-use Rattle.ty_select.proofs.Grammar.{whole_at, comma_then, set_held, kind_in, terminal_kind, kind_seen, word_seen, text_seen, begins_split, as_many}
+use Rattle.ty_select.proofs.Grammar.{whole_at, comma_then, set_held}
+use Rattle.ty_select.proofs.Terminals.{kind_in, terminal_kind, kind_seen, word_seen, text_seen, begins_split, as_many}
 use Rattle.ty_select.proofs.Loops.{negation_read, group_read}
 use Rattle.ty_select.proofs.PrintedTokens.{is_tested}
 

@@ -7,4 +7,5 @@ pub mod Printable
 pub mod Printed
 pub mod PrintedTokens
 pub mod Shapes
+pub mod Terminals
 pub mod Tokens

@@ -15,10 +15,12 @@ use Rattle.ty_select.specs.Forms.{Form, all, global, has, equal, unequal, among,
 use Rattle.ty_select.specs.Expressions.{◌>>=◌, Read, mark, more_texts, set, with_text, with_set, operand, membership, constant, primary, others, others_from, alone_or, operands, both_of, either_of, conjunction, disjunction, grouped, negation, inside, unary, whole_text, from_the_front, selector_of}
 use Rattle.ty_select.specs.Tokens.{Lexeme, lexeme, same_kind, is_blank, is_quote, token_at}
 use Rattle.ty_select.specs.Words.{is_word_byte, is_word}
-use Rattle.ty_select.specs.Grammar.{Terminal, a_word, a_text, paren, end_paren, brace, comma, bang, not_equal_sign, equal_sign, and_sign, or_sign, first_terminal, BeginsWith, AreFurtherTexts, no_text, further_text, IsSet, empty_set, set_of_texts, IsTest, is_equal, is_unequal, is_in, is_not_in, does_contain, starts_with, ends_with, IsOr, or_of, AreOrs, no_or, further_or, IsAnd, and_of, AreAnds, no_and, further_and, IsUnary, negation_of, unary_of, IsPrimary, group_of, all_of, global_of, has_of, test_of, AreTerminals, blank, filled}
+use Rattle.ty_select.specs.Grammar.{AreFurtherTexts, no_text, further_text, IsSet, empty_set, set_of_texts, IsTest, is_equal, is_unequal, is_in, is_not_in, does_contain, starts_with, ends_with, IsOr, or_of, AreOrs, no_or, further_or, IsAnd, and_of, AreAnds, no_and, further_and, IsUnary, negation_of, unary_of, IsPrimary, group_of, all_of, global_of, has_of, test_of, AreTerminals, blank, filled}
+use Rattle.ty_select.specs.Terminals.{Terminal, a_word, a_text, paren, end_paren, brace, comma, bang, not_equal_sign, equal_sign, and_sign, or_sign, first_terminal, BeginsWith}
 use Rattle.ty_select.specs.Places.{IsFaultPlace}
 use Rattle.ty_select.proofs.Expressions.{comma_read, further_read, quoted_then, word_then, word_text_then, set_opened, texts_opened, set_read, text_read, test_by, by_mark, by_word, primary_called, constant_read, unary_seen, word_unary, others_found, and_read, unary_read, primary_read, whole_read}
-use Rattle.ty_select.proofs.Grammar.{Broke, Explains, TextExplains, token_shorter, shorter, as_many, kind_seen, begins_then, comma_then, comma_explained, further_explained, set_held, held_explained, set_explained, text_explained, operand_explained, primary_explained, constant_explained, membership_explained, unary_is, ands_explained, ors_explained, whole_at, whole_explained}
+use Rattle.ty_select.proofs.Grammar.{Broke, Explains, TextExplains, comma_then, comma_explained, further_explained, set_held, held_explained, set_explained, text_explained, operand_explained, primary_explained, constant_explained, membership_explained, unary_is, ands_explained, ors_explained, whole_at, whole_explained}
+use Rattle.ty_select.proofs.Terminals.{token_shorter, shorter, as_many, kind_seen, begins_then}
 use Rattle.ty_select.proofs.Loops.{one_more}
 use Rattle.ty_select.proofs.PrintedTokens.{is_tested}
 use Rattle.ty_select.proofs.Tokens.{by_cases}

@@ -3,6 +3,7 @@ pub mod Forms
 pub mod Grammar
 pub mod Places
 pub mod Printable
+pub mod Terminals
 pub mod Text
 pub mod Tokens
 pub mod Words

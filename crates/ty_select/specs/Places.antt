@@ -3,7 +3,8 @@ use Rattle.std.specs.Prelude.{◌≡◌, ℕ, ◌-◌, List, [], ◌∷◌, ◌+
 use Rattle.std.specs.List.{AllByRecursion}
 use Rattle.ty_select.specs.declared.token.Kind.TheVariants as kind
 use Rattle.ty_select.specs.Forms.{Form}
-use Rattle.ty_select.specs.Grammar.{Terminal, IsTerminal, first_terminal, BeginsWith, AreTerminals}
+use Rattle.ty_select.specs.Grammar.{AreTerminals}
+use Rattle.ty_select.specs.Terminals.{Terminal, IsTerminal, first_terminal, BeginsWith}
 use Rattle.ty_select.specs.Tokens.{lexeme}
 
 -- tokens begin a selector in which so many may be open: with some tokens behind them they are one
