@@ -1,19 +1,19 @@
 -- What is in the grammar is read.
-use Rattle.std.proofs.Common.{◌≡◌, ℕ, zero, suc, ◌+◌, ◌-◌, ◌≤◌, List, [], ◌∷◌, length, Bool, true, false, ◌&&◌, cond, Ok, Err, Result, Option, Some, codes, refl, sym, ap, ◌∙◌, arith, length-append}
+use Rattle.std.proofs.Common.{◌≡◌, ℕ, zero, suc, ◌+◌, ◌-◌, ◌≤◌, List, [], ◌∷◌, length, Bool, true, false, ◌&&◌, cond, Ok, Err, Result, Option, Some, codes, refl, sym, ap, ◌∙◌, arith, length-append, subst, None}
 use Rattle.std.specs.Str.{bytes_eq}
 use Rattle.ty_select.specs.declared.limits.TheConstants.{MOST_OPEN}
 use Rattle.ty_select.specs.declared.fault.Stop.{Stop}
-use Rattle.ty_select.specs.declared.fault.Stop.TheVariants.{Bad}
+use Rattle.ty_select.specs.declared.fault.Stop.TheVariants.{Bad, TooDeep, Spent}
 use Rattle.ty_select.specs.declared.fault.Wanted.{Wanted}
 use Rattle.ty_select.specs.declared.fault.Wanted.TheVariants as wanted
 use Rattle.ty_select.specs.declared.term.Operator.{Operator}
 use Rattle.ty_select.specs.declared.term.Operator.TheVariants.{Equal, Unequal, In, NotIn, Contains, Starts, Ends}
 use Rattle.ty_select.specs.declared.token.Kind.{Kind}
 use Rattle.ty_select.specs.declared.token.Kind.TheVariants as kind
-use Rattle.ty_select.specs.Forms.{Form, all, global, has, equal, unequal, among, not_among, contains, starts, ends, both, either, Forms, none, more, forms_of}
+use Rattle.ty_select.specs.Forms.{Form, all, global, has, equal, unequal, among, not_among, contains, starts, ends, both, either, Forms, none, more, forms_of, negated}
 use Rattle.ty_select.specs.Expressions.{◌>>=◌, Read, mark, token_text, word, more_texts, texts, set, with_text, with_set, operator_of, operand, tested, test, membership, constant, primary, others, others_from, alone_or, operands, both_of, either_of, conjunction, disjunction, grouped, negation, one_deeper, unary_by, inside, unary, whole_text, from_the_front, selector_of}
 use Rattle.ty_select.specs.Tokens.{lexeme, same_kind}
-use Rattle.ty_select.specs.Grammar.{AreFurtherTexts, no_text, further_text, IsSet, empty_set, set_of_texts, IsTest, is_equal, is_unequal, is_in, is_not_in, does_contain, starts_with, ends_with, joined, IsOr, or_of, AreOrs, no_or, further_or, IsAnd, and_of, AreAnds, no_and, further_and, IsUnary, negation_of, unary_of, IsPrimary, group_of, all_of, global_of, has_of, test_of, AreTerminals, blank, filled, IsSelectorWithin, IsSelector}
+use Rattle.ty_select.specs.Grammar.{AreFurtherTexts, no_text, further_text, IsSet, empty_set, set_of_texts, IsTest, is_equal, is_unequal, is_in, is_not_in, does_contain, starts_with, ends_with, joined_by, IsOr, or_of, AreOrs, no_or, further_or, IsAnd, and_of, AreAnds, no_and, further_and, IsUnary, negation_of, unary_of, IsPrimary, group_of, all_of, global_of, has_of, test_of, AreTerminals, blank, filled, IsSelectorWithin, IsSelector}
 use Rattle.ty_select.specs.Terminals.{Terminal, a_word, a_text, paren, end_paren, brace, end_brace, comma, bang, not_equal_sign, equal_sign, and_sign, or_sign, first_terminal, BeginsWith}
 use Rattle.ty_select.proofs.Back.{listing, listing_back, none_more}
 use Rattle.ty_select.proofs.Grammar.{whole_at, comma_then, set_held}
@@ -182,7 +182,7 @@ operands_read k make one b c r f fs first rest =
     ap (λ q. q >>= λ (x : Form × List ℕ). others_from k one x.0 x.1 >>= λ xs. Ok (alone_or make xs.0, xs.1)) first
     ∙ ap (λ q. q >>= (λ (xs : List Form × List ℕ). Ok (f ∷ xs.0, xs.1)) >>= λ (xs : List Form × List ℕ). Ok (alone_or make xs.0, xs.1)) rest
 
-alone_joined : (node : Forms → Form) (f : Form) (fs : Forms) → alone_or (λ l. node (forms_of l)) (f ∷ listing fs) ≡ joined node f fs
+alone_joined : (node : Forms → Form) (f : Form) (fs : Forms) → alone_or (λ l. node (forms_of l)) (f ∷ listing fs) ≡ joined_by node f fs
 alone_joined node f none = refl
 alone_joined node f (more g gs) = ap (λ l. node (more f (more g l))) (listing_back gs)
 
@@ -266,7 +266,7 @@ and_begins (and_of {n} {ts} {us} d ds) b r h = (let (c, first, rest) = begins_sp
 or_begins : {n : ℕ} {ts : List Terminal} {f : Form} → IsOr n ts f → (b r : List ℕ) → BeginsWith b ts r → same_kind (lexeme b).kind kind.End ≡ false
 or_begins (or_of {n} {ts} {us} d ds) b r h = (let (c, first, rest) = begins_split b ts us r h in and_begins d b c first)
 
-abbrev joint : Form × List ℕ → Result Form Stop
+abbrev pub joint : Form × List ℕ → Result Form Stop
 joint x = cond (same_kind (lexeme x.1).kind kind.End) (Ok x.0) (Err (Bad (length (lexeme x.1).here) wanted.Joint))
 
 pub whole_read : {n : ℕ} {ts : List Terminal} {f : Form} → AreTerminals n ts f → (m : ℕ) (b r : List ℕ) → n ≤ m → BeginsWith b ts r → (lexeme r).kind ≡ kind.End → whole_at m b ≡ Ok f
@@ -285,3 +285,83 @@ said_once text f g h k =
     let m = h.0 + k.0 in
     let same = sym (whole_read h.1.said m text h.1.rest (omega arith) h.1.begins h.1.ended) ∙ whole_read k.1.said m text k.1.rest (omega arith) k.1.begins k.1.ended in
     cc
+
+-- With more that may be open, what is read stays, and each fault but that one too many is open.
+
+abbrev pub Kept : {A : Type 0} → Result A Stop → Result A Stop → Type 0
+Kept (Ok y) s = s ≡ Ok y
+Kept (Err (Bad left w)) s = s ≡ Err (Bad left w)
+Kept (Err (TooDeep left)) s = Unit {0}
+Kept (Err Spent) s = Unit {0}
+
+kept_same : {A : Type 0} (r : Result A Stop) → Kept r r
+kept_same (Ok y) = refl
+kept_same (Err (Bad left w)) = refl
+kept_same (Err (TooDeep left)) = tt
+kept_same (Err Spent) = tt
+
+kept_then : {A B : Type 0} (r s : Result A Stop) (f g : A → Result B Stop) → Kept r s → ((y : A) → Kept (f y) (g y)) → Kept (r >>= f) (s >>= g)
+kept_then (Ok y) s f g e go = subst (λ q. Kept (f y) (q >>= g)) (sym e) (go y)
+kept_then (Err (Bad left w)) s f g e go = ap (λ q. q >>= g) e
+kept_then (Err (TooDeep left)) s f g e go = tt
+kept_then (Err Spent) s f g e go = tt
+
+kept_cond : {A : Type 0} (c : Bool) (r s t u : Result A Stop) → Kept r t → Kept s u → Kept (cond c r s) (cond c t u)
+kept_cond true r s t u h k = h
+kept_cond false r s t u h k = k
+
+module _ (k : Kind) (one two : List ℕ → Read Form) (each : (b : List ℕ) → Kept (one b) (two b)) where
+  others_kept : (m : ℕ) (b : List ℕ) → Kept (others k one m b) (others k two m b)
+  unfolding others
+  others_kept zero b = refl
+  others_kept (suc m) b =
+      kept_cond (same_kind (lexeme b).kind k) _ _ _ _
+      (kept_then (one (lexeme b).rest) (two (lexeme b).rest) (λ x. others k one m x.1 >>= λ xs. Ok (x.0 ∷ xs.0, xs.1)) (λ x. others k two m x.1 >>= λ xs. Ok (x.0 ∷ xs.0, xs.1)) (each (lexeme b).rest)
+      (λ y. kept_then (others k one m y.1) (others k two m y.1) (λ xs. Ok (y.0 ∷ xs.0, xs.1)) (λ xs. Ok (y.0 ∷ xs.0, xs.1)) (others_kept m y.1) (λ xs. refl)))
+      refl
+
+  operands_kept : (make : List Form → Form) (b : List ℕ) → Kept (operands k make one b) (operands k make two b)
+  unfolding operands
+  operands_kept make b =
+      kept_then (one b) (two b) (λ x. others_from k one x.0 x.1 >>= λ xs. Ok (alone_or make xs.0, xs.1)) (λ x. others_from k two x.0 x.1 >>= λ xs. Ok (alone_or make xs.0, xs.1)) (each b)
+      (λ y. kept_then (others_from k one y.0 y.1) (others_from k two y.0 y.1) (λ xs. Ok (alone_or make xs.0, xs.1)) (λ xs. Ok (alone_or make xs.0, xs.1))
+      (kept_then (others k one (length y.1) y.1) (others k two (length y.1) y.1) (λ xs. Ok (y.0 ∷ xs.0, xs.1)) (λ xs. Ok (y.0 ∷ xs.0, xs.1)) (others_kept (length y.1) y.1) (λ xs. refl)) (λ xs. refl))
+
+disjunction_kept : (one two : List ℕ → Read Form) → ((b : List ℕ) → Kept (one b) (two b)) → (b : List ℕ) → Kept (disjunction one b) (disjunction two b)
+disjunction_kept one two each b = operands_kept kind.OrOr (conjunction one) (conjunction two) (λ c. operands_kept kind.AndAnd one two each both_of c) either_of b
+
+abbrev InnerKept : Option (List ℕ → Read Form) → Option (List ℕ → Read Form) → Type 0
+InnerKept None inner = Unit {0}
+InnerKept (Some one) None = ⊥
+InnerKept (Some one) (Some two) = (b : List ℕ) → Kept (one b) (two b)
+
+module _ (here rest : List ℕ) where
+  negation_kept : (i j : Option (List ℕ → Read Form)) → InnerKept i j → Kept (one_deeper i negation here rest) (one_deeper j negation here rest)
+  negation_kept None j h = tt
+  negation_kept (Some one) None h = absurd h
+  negation_kept (Some one) (Some two) h = kept_then (one rest) (two rest) (λ x. Ok (negated x.0, x.1)) (λ x. Ok (negated x.0, x.1)) (h rest) (λ x. refl)
+
+  group_kept : (i j : Option (List ℕ → Read Form)) → InnerKept i j → Kept (one_deeper i grouped here rest) (one_deeper j grouped here rest)
+  group_kept None j h = tt
+  group_kept (Some one) None h = absurd h
+  group_kept (Some one) (Some two) h =
+      kept_then (disjunction one rest) (disjunction two rest) (λ x. mark kind.Close wanted.Close x.1 >>= λ r. Ok (x.0, r)) (λ x. mark kind.Close wanted.Close x.1 >>= λ r. Ok (x.0, r))
+      (disjunction_kept one two h rest) (λ x. kept_same (mark kind.Close wanted.Close x.1 >>= λ r. Ok (x.0, r)))
+
+unary_kept : (i j : Option (List ℕ → Read Form)) → InnerKept i j → (b : List ℕ) → Kept (unary_by i b) (unary_by j b)
+unfolding unary_by
+unary_kept i j h b =
+    kept_cond (same_kind (lexeme b).kind kind.Word) _ _ _ _ (kept_same (primary (lexeme b).text (lexeme b).rest))
+    (kept_cond (same_kind (lexeme b).kind kind.Bang) _ _ _ _ (negation_kept (lexeme b).here (lexeme b).rest i j h)
+    (kept_cond (same_kind (lexeme b).kind kind.Open) _ _ _ _ (group_kept (lexeme b).here (lexeme b).rest i j h) refl))
+
+inside_kept : (n m : ℕ) → n ≤ m → InnerKept (inside n) (inside m)
+unfolding inside
+inside_kept zero m le = tt
+inside_kept (suc n) zero le = absurd (omega arith)
+inside_kept (suc n) (suc m) le = unary_kept (inside n) (inside m) (inside_kept n m (omega arith))
+
+pub whole_kept : (n m : ℕ) → n ≤ m → (b : List ℕ) → Kept (whole_at n b) (whole_at m b)
+whole_kept n m le b =
+    kept_cond (same_kind (lexeme b).kind kind.End) _ _ _ _ refl
+    (kept_then (disjunction (unary n) b) (disjunction (unary m) b) joint joint (disjunction_kept (unary n) (unary m) (unary_kept (inside n) (inside m) (inside_kept n m le)) b) (λ y. kept_same (joint y)))

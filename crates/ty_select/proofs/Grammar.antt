@@ -18,7 +18,7 @@ use Rattle.ty_select.specs.Forms.{Form, all, global, has, equal, unequal, among,
 use Rattle.ty_select.specs.Expressions.{◌>>=◌, Read, mark, token_text, word, more_texts, texts, set, with_text, with_set, operator_of, operand, tested, test, membership, constant, primary, others, others_from, alone_or, operands, both_of, either_of, conjunction, disjunction, grouped, negation, one_deeper, unary_by, inside, unary, whole_text, from_the_front, selector_of}
 use Rattle.ty_select.specs.Tokens.{lexeme, same_kind}
 use Rattle.ty_select.proofs.Tokens.{ascii_nil, by_cases}
-use Rattle.ty_select.specs.Grammar.{AreFurtherTexts, no_text, further_text, IsSet, empty_set, set_of_texts, IsTest, is_equal, is_unequal, is_in, is_not_in, does_contain, starts_with, ends_with, joined, IsOr, or_of, AreOrs, no_or, further_or, IsAnd, and_of, AreAnds, no_and, further_and, IsUnary, negation_of, unary_of, IsPrimary, group_of, all_of, global_of, has_of, test_of, AreTerminals, blank, filled, IsSelectorWithin}
+use Rattle.ty_select.specs.Grammar.{AreFurtherTexts, no_text, further_text, IsSet, empty_set, set_of_texts, IsTest, is_equal, is_unequal, is_in, is_not_in, does_contain, starts_with, ends_with, joined_by, IsOr, or_of, AreOrs, no_or, further_or, IsAnd, and_of, AreAnds, no_and, further_and, IsUnary, negation_of, unary_of, IsPrimary, group_of, all_of, global_of, has_of, test_of, AreTerminals, blank, filled, IsSelectorWithin}
 use Rattle.ty_select.specs.Terminals.{Terminal, a_word, a_text, paren, end_paren, brace, end_brace, comma, bang, not_equal_sign, equal_sign, and_sign, or_sign, IsTerminal, terminal, first_terminal, BeginsWith}
 use Rattle.ty_select.proofs.Terminals.{all_then, begins_then, found, kind_is, name_is}
 
@@ -49,8 +49,16 @@ stopped L b g = record { before = []; here = b; after = g.0; value = g.2; read =
 
 broke_behind : {A : Type 0} (L : List Terminal → A → Type 0) (b : List ℕ) (ts : List Terminal) (c : List ℕ) (left : ℕ) → BeginsWith b ts c → Broke (λ us. L (ts ++ us)) c left → Broke L b left
 broke_behind L b ts c left h e =
-    record { before = ts ++ e.before; here = e.here; after = e.after; value = e.value; read = begins_then b ts e.before c e.here h e.read; place = e.place; are_terminals = e.are_terminals;
-      goes_on = subst (λ us. L us e.value) (sym (append_assoc ts e.before e.after)) e.goes_on }
+    record {
+      before = ts ++ e.before;
+      here = e.here;
+      after = e.after;
+      value = e.value;
+      read = begins_then b ts e.before c e.here h e.read;
+      place = e.place;
+      are_terminals = e.are_terminals;
+      goes_on = subst (λ us. L us e.value) (sym (append_assoc ts e.before e.after)) e.goes_on;
+    }
 
 behind : {A : Type 0} (L : List Terminal → A → Type 0) (b : List ℕ) (ts : List Terminal) (c : List ℕ) → BeginsWith b ts c → (r : Read A) → Explains (λ us. L (ts ++ us)) c r → Explains L b r
 behind L b ts c h (Ok y) e = (ts ++ e.0, begins_then b ts e.0 c y.1 h e.1, e.2)
@@ -68,8 +76,16 @@ module _ {A B : Type 0} (M : List Terminal → A → Type 0) (L : List Terminal 
   broke_first : (b : List ℕ) (left : ℕ) → ((ts : List Terminal) (x : A) → M ts x → GoesOn (then_one L ts)) → Broke M b left → Broke L b left
   broke_first b left fin e =
       let g = fin (e.before ++ e.after) e.value e.goes_on in
-      record { before = e.before; here = e.here; after = e.after ++ g.0; value = g.2; read = e.read; place = e.place; are_terminals = all_then e.after g.0 e.are_terminals g.1;
-        goes_on = subst (λ us. L us g.2) (append_assoc e.before e.after g.0) g.3 }
+      record {
+        before = e.before;
+        here = e.here;
+        after = e.after ++ g.0;
+        value = g.2;
+        read = e.read;
+        place = e.place;
+        are_terminals = all_then e.after g.0 e.are_terminals g.1;
+        goes_on = subst (λ us. L us g.2) (append_assoc e.before e.after g.0) g.3;
+      }
 
   bind : (b : List ℕ) (r : Read A) (k : A × List ℕ → Read B) → Explains M b r → ((ts : List Terminal) (x : A) → M ts x → GoesOn (then_one L ts))
       → ((ts : List Terminal) (y : A × List ℕ) → M ts y.0 → Explains (then_one L ts) y.1 (k y)) → Explains L b (r >>= k)
@@ -285,7 +301,7 @@ module _ (k : Kind) (t : Terminal) (sees : (l : List ℕ) → terminal k l ≡ S
       (λ ts y p. made (λ us gs. Q (ts ++ us) (alone_or make gs)) (then_one Q ts) (alone_or make) (λ us gs h. h) y.1 (others_from k one y.0 y.1)
       (made T (λ us gs. Q (ts ++ us) (alone_or make gs)) (λ fs. y.0 ∷ fs) (λ us fs h. q ts us y.0 fs p h) y.1 (others k one (length y.1) y.1) (others_explained (length y.1) y.1)))
 
-alone_joined : (node : Forms → Form) (f : Form) (fs : List Form) → joined node f (forms_of fs) ≡ alone_or (λ l. node (forms_of l)) (f ∷ fs)
+alone_joined : (node : Forms → Form) (f : Form) (fs : List Form) → joined_by node f (forms_of fs) ≡ alone_or (λ l. node (forms_of l)) (f ∷ fs)
 alone_joined node f [] = refl
 alone_joined node f (g ∷ gs) = refl
 
@@ -337,7 +353,7 @@ unfolding unary_by
 unary_explained n inner i b =
     let P : Read Form → Type 0 = Explains (IsUnary n) b in
     by_cases P (same_kind (lexeme b).kind kind.Word) _ _
-    (λ e. shift (IsUnary n) b (a_word (lexeme b).text) (found b kind.Word e) _ 
+    (λ e. shift (IsUnary n) b (a_word (lexeme b).text) (found b kind.Word e) _
     (same_made (λ ts. IsPrimary n (a_word (lexeme b).text ∷ ts)) (λ ts. IsUnary n (a_word (lexeme b).text ∷ ts)) (λ ts f p. unary_of p) (lexeme b).rest (primary (lexeme b).text (lexeme b).rest)
     (primary_explained n (lexeme b).text (lexeme b).rest))) (λ _.
     by_cases P (same_kind (lexeme b).kind kind.Bang) _ _ (λ e. negation_explained n inner i b (found b kind.Bang e)) (λ _.

@@ -18,7 +18,7 @@ use Rattle.ty_select.specs.Words.{is_word_byte, is_word}
 use Rattle.ty_select.specs.Grammar.{AreFurtherTexts, no_text, further_text, IsSet, empty_set, set_of_texts, IsTest, is_equal, is_unequal, is_in, is_not_in, does_contain, starts_with, ends_with, IsOr, or_of, AreOrs, no_or, further_or, IsAnd, and_of, AreAnds, no_and, further_and, IsUnary, negation_of, unary_of, IsPrimary, group_of, all_of, global_of, has_of, test_of, AreTerminals, blank, filled}
 use Rattle.ty_select.specs.Terminals.{Terminal, a_word, a_text, paren, end_paren, brace, comma, bang, not_equal_sign, equal_sign, and_sign, or_sign, first_terminal, BeginsWith}
 use Rattle.ty_select.specs.Places.{IsFaultPlace}
-use Rattle.ty_select.proofs.Expressions.{comma_read, further_read, quoted_then, word_then, word_text_then, set_opened, texts_opened, set_read, text_read, test_by, by_mark, by_word, primary_called, constant_read, unary_seen, word_unary, others_found, and_read, unary_read, primary_read, whole_read}
+use Rattle.ty_select.proofs.Expressions.{comma_read, further_read, quoted_then, word_then, word_text_then, set_opened, texts_opened, set_read, text_read, test_by, by_mark, by_word, primary_called, constant_read, unary_seen, word_unary, others_found, and_read, unary_read, primary_read, whole_read, Kept, whole_kept}
 use Rattle.ty_select.proofs.Grammar.{Broke, Explains, TextExplains, comma_then, comma_explained, further_explained, set_held, held_explained, set_explained, text_explained, operand_explained, primary_explained, constant_explained, membership_explained, unary_is, ands_explained, ors_explained, whole_at, whole_explained}
 use Rattle.ty_select.proofs.Terminals.{token_shorter, shorter, as_many, kind_seen, begins_then}
 use Rattle.ty_select.proofs.Loops.{one_more}
@@ -396,9 +396,16 @@ too_deep_at n text (Err (TooDeep left)) is e p h =
     subst (IsFaultPlace n text) same (fault_place n text left e (λ q s. subst (StopsBy q) is s) (λ f k. (let both_are = sym is ∙ k in absurd (cc)))))
 too_deep_at n text (Err Spent) is e p h = absurd e
 
-pub bad_is_placed : (text : List ℕ) (p : ℕ) (w : Wanted) → selector_of text ≡ Err (faults.Bad p w) → IsFaultPlace MOST_OPEN text p
+bad_kept : (k : ℕ) (r s : Result Form Stop) → Kept r s → (p : ℕ) (w : Wanted) → from_the_front k r ≡ Err (faults.Bad p w) → from_the_front k s ≡ Err (faults.Bad p w)
+bad_kept k (Ok f) s e p w h = absurd (cc)
+bad_kept k (Err (Bad left v)) s e p w h = ap (from_the_front k) e ∙ h
+bad_kept k (Err (TooDeep left)) s e p w h = absurd (cc)
+bad_kept k (Err Spent) s e p w h = absurd (cc)
+
+pub bad_is_placed : (text : List ℕ) (p : ℕ) (w : Wanted) → selector_of text ≡ Err (faults.Bad p w) → (n : ℕ) → MOST_OPEN ≤ n → IsFaultPlace n text p
 unfolding selector_of whole_text
-bad_is_placed text p w h = bad_at MOST_OPEN text (whole_at MOST_OPEN text) refl (whole_explained MOST_OPEN text) p w h
+bad_is_placed text p w h n le =
+    bad_at n text (whole_at n text) refl (whole_explained n text) p w (bad_kept (length text) (whole_at MOST_OPEN text) (whole_at n text) (whole_kept MOST_OPEN n le text) p w h)
 
 pub too_deep_is_placed : (text : List ℕ) (p : ℕ) → selector_of text ≡ Err (faults.TooDeep p) → IsFaultPlace MOST_OPEN text p
 unfolding selector_of whole_text

@@ -4,7 +4,7 @@ use Rattle.std.specs.List.{AllByRecursion}
 use Rattle.ty_select.specs.Forms.{Form, both, either, Forms, none, more}
 use Rattle.ty_select.specs.Printable.{IsLabel, IsQuotable, IsPrintable, ArePrintable}
 use Rattle.ty_select.specs.Expressions.{selector_of}
-use Rattle.ty_select.specs.Grammar.{AreFurtherTexts, no_text, further_text, IsSet, empty_set, set_of_texts, IsTest, is_equal, is_unequal, is_in, is_not_in, does_contain, starts_with, ends_with, joined, IsOr, or_of, AreOrs, no_or, further_or, IsAnd, and_of, AreAnds, no_and, further_and, IsUnary, negation_of, unary_of, IsPrimary, group_of, all_of, global_of, has_of, test_of, AreTerminals, blank, filled}
+use Rattle.ty_select.specs.Grammar.{AreFurtherTexts, no_text, further_text, IsSet, empty_set, set_of_texts, IsTest, is_equal, is_unequal, is_in, is_not_in, does_contain, starts_with, ends_with, joined_by, IsOr, or_of, AreOrs, no_or, further_or, IsAnd, and_of, AreAnds, no_and, further_and, IsUnary, negation_of, unary_of, IsPrimary, group_of, all_of, global_of, has_of, test_of, AreTerminals, blank, filled}
 use Rattle.ty_select.specs.Terminals.{Terminal, end_paren, IsTerminal}
 use Rattle.ty_select.proofs.Grammar.{what_is_read_is_said}
 use Rattle.ty_select.proofs.Terminals.{all_sound}
@@ -34,7 +34,7 @@ test_printable (starts_with v) h a = (h, a.1.1.0)
 test_printable (ends_with v) h a = (h, a.1.1.0)
 
 joined_printable : (node : Forms → Form) → ((f g : Form) (gs : Forms) → ArePrintable (more f (more g gs)) → IsPrintable (node (more f (more g gs))))
-    → (f : Form) (fs : Forms) → IsPrintable f → ArePrintable fs → IsPrintable (joined node f fs)
+    → (f : Form) (fs : Forms) → IsPrintable f → ArePrintable fs → IsPrintable (joined_by node f fs)
 joined_printable node h f none p q = p
 joined_printable node h f (more g gs) p q = h f g gs (p, q)
 

@@ -36,8 +36,9 @@ pub fn one_reading()
 {}
 
 /// A fault stands where the tokens before it begin a selector with no more than `MOST_OPEN` of `!` and `(` open at
-/// once, and those up to it begin none.
+/// once, and those up to it begin none; nor do they where more may be open, unless the fault is that too many are.
 pub fn faults_stand_where_no_selector_goes_on()
-    ensures bad { (text : List ℕ) (place : ℕ) (wanted : Wanted) → selector_of text ≡ Err (Bad place wanted) → IsFaultPlace MOST_OPEN text place }
+    ensures bad { (text : List ℕ) (place : ℕ) (wanted : Wanted) → selector_of text ≡ Err (Bad place wanted)
+        → (n : ℕ) → MOST_OPEN ≤ n → IsFaultPlace n text place }
     ensures too_deep { (text : List ℕ) (place : ℕ) → selector_of text ≡ Err (TooDeep place) → IsFaultPlace MOST_OPEN text place }
 {}

@@ -15,8 +15,8 @@ mod word;
 
 pub use fault::{SelectFault, Wanted};
 pub use laws::{
-    faults_stand_where_no_selector_goes_on, one_reading, printed_reads_back, what_is_in_the_grammar_is_read, what_is_read_is_in_the_grammar,
-    what_is_read_is_printable,
+    faults_stand_where_no_selector_goes_on, one_reading, printed_reads_back,
+    what_is_in_the_grammar_is_read, what_is_read_is_in_the_grammar, what_is_read_is_printable,
 };
 pub use limits::{MOST_OPEN, WORD_BYTES};
 pub use selector::{Selector, Selectors, Texts};
