@@ -7,7 +7,8 @@ use Rattle.ty_base.specs.Feed.{World, after, book, folded, replay, same_world}
 use Rattle.ty_base.proofs.Pairs.{worlds_decide}
 use Rattle.ty_account.specs.Known.{Known, known}
 use Rattle.ty_crumb.specs.declared.crumb.Crumb.{Crumb}
-use Rattle.ty_crumb.specs.Batches.{IsClosed, IsNextBatch, next_entries}
+use Rattle.ty_base.specs.Batches.{IsClosed, IsNextBatch}
+use Rattle.ty_crumb.specs.Batches.{next_entries}
 use Rattle.ty_crumb.specs.declared.successor.Made.{Made}
 use Rattle.ty_crumb.specs.declared.successor.Made.TheVariants.{Crumb as Next}
 use Rattle.ty_crumb.specs.Crumbs.{CrumbStands, world_of, is_unchanged, IfNext, entries_of}

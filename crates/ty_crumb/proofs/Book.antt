@@ -14,7 +14,8 @@ use Rattle.std.proofs.Math.Seq.{drop-append_seam, get_or-append_seam}
 use Rattle.ty_base.proofs.Cuts.{passed, passed_more, range_split}
 use Rattle.ty_base.proofs.More.{world_more, cut_more, same_world_more, deltas_more}
 use Rattle.ty_base.proofs.Reading.{cuts_are}
-use Rattle.ty_crumb.specs.Batches.{IsClosed, IsNextBatch, entry_of, next_entries}
+use Rattle.ty_base.specs.Batches.{IsClosed, IsNextBatch}
+use Rattle.ty_crumb.specs.Batches.{entry_of, next_entries}
 
 -- Cuts among more positions
 

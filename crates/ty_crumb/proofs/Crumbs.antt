@@ -11,7 +11,8 @@ use Rattle.ty_base.proofs.Replay.{replays}
 use Rattle.ty_crumb.specs.declared.crumb.Crumb.{Crumb}
 use Rattle.ty_crumb.specs.declared.successor.Made.{Made}
 use Rattle.ty_crumb.specs.declared.successor.Made.TheVariants.{Unchanged, Crumb as Next}
-use Rattle.ty_crumb.specs.Batches.{IsClosed, IsNextBatch, next_entries}
+use Rattle.ty_base.specs.Batches.{IsClosed, IsNextBatch}
+use Rattle.ty_crumb.specs.Batches.{next_entries}
 use Rattle.ty_crumb.specs.Crumbs.{CrumbStands, world_of, entries_of, IfNext, IsMadeFor}
 use Rattle.ty_crumb.proofs.Book.{the_book_grows, settled_end, last_is_at}
 

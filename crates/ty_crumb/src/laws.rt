@@ -2,7 +2,8 @@
 ghost use Rattle.std.specs.Prelude.{◌≡◌, ◌++◌, ◌+◌, Bool, false, List, length};
 ghost use Rattle.ty_base.specs.declared.item.Item.{Item};
 ghost use Rattle.ty_base.specs.Feed.{book, folded};
-ghost use Rattle.ty_crumb.specs.Batches.{IsClosed, IsNextBatch, next_entries};
+ghost use Rattle.ty_base.specs.Batches.{IsClosed, IsNextBatch};
+ghost use Rattle.ty_crumb.specs.Batches.{next_entries};
 
 /// Behind items that end at a closing, the next batch adds the entry that it makes over their fold to the
 /// book, or none where it leaves map and status equal.

@@ -8,7 +8,8 @@ ghost use Rattle.ty_base.specs.declared.limits.TheConstants.{INPUT_BYTES};
 ghost use Rattle.ty_base.specs.Statuses.{same_status as same};
 ghost use Rattle.ty_base.specs.Feed.{after, book, same_world, change, changed, get};
 ghost use Rattle.ty_dedupe.specs.Pending.{pending, last_status};
-ghost use Rattle.ty_crumb.specs.Batches.{IsBatch, IsClosed, IsNextBatch, next_entries};
+ghost use Rattle.ty_base.specs.Batches.{IsBatch, IsClosed, IsNextBatch};
+ghost use Rattle.ty_crumb.specs.Batches.{next_entries};
 ghost use Rattle.ty_crumb.specs.Crumbs.{CrumbStands, world_of, is_unchanged, IfNext, entries_of, IsMadeFor, added};
 ghost use Rattle.ty_crumb.specs.steps.Deltas.{updated, deleted};
 

@@ -4,7 +4,7 @@ ghost use Rattle.std.specs.List.{list_all, count_by};
 ghost use Rattle.ty_base.specs.Feed.{is_update as updates};
 ghost use Rattle.ty_base.specs.Passing.{item_passes};
 ghost use Rattle.ty_base.specs.Limits.{key_fits, value_fits, items_fit};
-ghost use Rattle.ty_crumb.specs.Batches.{IsBatch};
+ghost use Rattle.ty_base.specs.Batches.{IsBatch};
 
 use crate::{Crumb, Made, next_crumb, snapshot};
 use std::alloc::Global;

@@ -8,6 +8,7 @@ pub mod LastBatches
 pub mod LineFaults
 pub mod Lines
 pub mod LongerFeeds
+pub mod NextBatches
 pub mod OpenFeeds
 pub mod ReadLines
 pub mod ReadPieces

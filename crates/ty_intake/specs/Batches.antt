@@ -1,6 +1,6 @@
 -- The items of a feed, and the batches that they close.
 use Rattle.std.specs.Prelude.{ℕ, List, [], ◌∷◌, Bool, not, ◌&&◌, take, is_some}
-use Rattle.std.specs.List.{filter_map, take_while, slice_range, list_all}
+use Rattle.std.specs.List.{filter_map, flat_map, take_while, slice_range, list_all}
 use Rattle.ty_base.specs.declared.item.Item.{Item}
 use Rattle.ty_base.specs.Feed.{closings, last_of}
 use Rattle.ty_base.specs.Limits.{is_small}
@@ -31,6 +31,10 @@ batches ended items = batches_between items 0 (closings ended items)
 
 unfoldable pub batches_of : Feed → List Closed
 batches_of feed = batches (is_whole feed) (items_of feed)
+
+-- the items of batches, one behind another
+abbrev pub joined : List Closed → List Item
+joined bs = flat_map (λ b. b.items) bs
 
 -- the items up to the last closing
 unfoldable pub closed_items : Feed → List Item

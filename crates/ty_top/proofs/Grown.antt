@@ -10,20 +10,21 @@ use Rattle.ty_base.specs.declared.item.Item.{Item}
 use Rattle.ty_base.specs.declared.entry.Entry.{Entry}
 use Rattle.ty_base.specs.declared.status.Status.{Status}
 use Rattle.ty_base.specs.Feed.{World, after, folded, is_update, is_closing, closings, cuts_after, cuts, last, world_at, same_world, last_of, key_of, firsts, changes, deltas, entry, book, replay}
-use Rattle.ty_crumb.specs.Batches.{IsClosed, IsNextBatch, entry_of, next_entries}
+use Rattle.ty_base.specs.Batches.{IsClosed, IsNextBatch}
+use Rattle.ty_crumb.specs.Batches.{entry_of, next_entries}
 use Rattle.ty_crumb.specs.declared.crumb.Crumb.{Crumb}
 use Rattle.ty_crumb.specs.Crumbs.{CrumbStands, snapshot_of}
 use Rattle.ty_crumb.proofs.Book.{the_book_grows}
 use Rattle.ty_intake.specs.declared.batch.Closed.{Closed}
-use Rattle.ty_intake.specs.Batches.{batches}
+use Rattle.ty_intake.specs.Batches.{batches, joined}
 use Rattle.ty_wire.specs.Wire.{frames, frame}
 use Rattle.ty_wire.specs.Talk.{talk, group_messages, groups_after, status_change}
 use Rattle.ty_wire.specs.declared.message.Msg.{Msg}
 use Rattle.ty_wire.specs.declared.message.Msg.TheVariants.{ServerHello}
 use Rattle.ty_top.specs.Streamed.{streamed}
-use Rattle.ty_top.specs.steps.Publisher.{crumb_messages, joined}
+use Rattle.ty_top.specs.steps.Publisher.{crumb_messages}
 use Rattle.ty_top.proofs.Told.{told, told_after, told_first, told_before, none_yet}
-use Rattle.ty_top.proofs.NextBatch.{IsNext, next_of, joined_more}
+use Rattle.ty_intake.proofs.NextBatches.{IsNext, next_of, joined_more, next_at_end}
 
 pub streamed_is : (items : List Item) (j : ℕ) → streamed items j ≡ frames (told (book true items) j)
 unfolding streamed book
@@ -119,8 +120,8 @@ pub all_more : (j : ℕ) (ended : Bool) (items : List Item) (rest done : List Cl
     → (bytes : List ℕ) × (streamed (joined (done ++ rest)) j ≡ streamed (joined done) j ++ bytes)
 all_more j ended items [] done w = ([], ap (λ (l : List Closed). streamed (joined l) j) (append-nil done) ∙ sym (append-nil (streamed (joined done) j)))
 all_more j ended items (b ∷ rest) done w =
-    let i : IsNext (length items) done b = next_of ended items done b rest w in
-    let one = one_more j (joined done) b.items i.closed i.next in
+    let i : IsNext ended items done b = next_of ended items done b rest w in
+    let one = one_more j (joined done) b.items i.closed (next_at_end ended (joined done) b.items i.next) in
     let go = all_more j ended items rest (done ++ b ∷ []) (w ∙ sym (append_assoc done (b ∷ []) rest)) in (
       one.0 ++ go.0,
       ap (λ (l : List Closed). streamed (joined l) j) (sym (append_assoc done (b ∷ []) rest))

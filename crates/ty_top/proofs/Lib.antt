@@ -2,7 +2,6 @@ pub mod Told
 pub mod Books
 pub mod Limits
 pub mod Streams
-pub mod NextBatch
 pub mod Grown
 pub mod Published
 pub mod FeedGrows

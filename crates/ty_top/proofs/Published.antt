@@ -7,8 +7,8 @@ use Rattle.std.proofs.lemmas.List.Folds.{list_all-append}
 use Rattle.ty_base.proofs.Passing.{left, right}
 use Rattle.ty_top.proofs.Limits.{items_within}
 use Rattle.ty_intake.specs.declared.batch.Closed.{Closed}
-use Rattle.ty_intake.specs.Batches.{batches, batch_fits}
-use Rattle.ty_top.proofs.NextBatch.{IsNext, next_of, joined_more, is_batch}
+use Rattle.ty_intake.specs.Batches.{batches, batch_fits, joined}
+use Rattle.ty_intake.proofs.NextBatches.{IsNext, next_of, joined_more, is_batch, next_at_end}
 use Rattle.std.proofs.lemmas.List.FromFn.{length-map-range_with_len}
 use Rattle.ty_base.specs.declared.item.Item.{Item}
 use Rattle.ty_base.specs.declared.entry.Entry.{Entry}
@@ -16,7 +16,8 @@ use Rattle.ty_base.specs.declared.status.Status.{Status}
 use Rattle.ty_base.specs.Feed.{World, after, folded, closings, cuts_after, cuts, last, world_at, same_world, entry, book, is_closing, replay}
 use Rattle.ty_base.specs.Causes.{Rose}
 use Rattle.ty_base.proofs.Known.{Appends-then, Appends-same, AppendsFront-more, AppendsFront-after}
-use Rattle.ty_crumb.specs.Batches.{IsBatch, IsClosed, IsNextBatch, entry_of, next_entries}
+use Rattle.ty_base.specs.Batches.{IsBatch, IsClosed, IsNextBatch}
+use Rattle.ty_crumb.specs.Batches.{entry_of, next_entries}
 use Rattle.ty_crumb.specs.declared.crumb.Crumb.{Crumb}
 use Rattle.ty_crumb.specs.declared.successor.Made.{Made}
 use Rattle.ty_crumb.specs.declared.successor.Made.TheVariants.{Unchanged, Crumb as Next}
@@ -26,7 +27,7 @@ use Rattle.ty_wire.specs.Wire.{frame, frames}
 use Rattle.ty_wire.specs.declared.message.Msg.TheVariants.{ServerHello}
 use Rattle.ty_top.proofs.Told.{told}
 use Rattle.ty_top.specs.Streamed.{streamed}
-use Rattle.ty_top.specs.steps.Publisher.{Gave, crumb_messages, joined, CrumbOf, Owed, AreGiven, AreGivenAndTold, gone_on}
+use Rattle.ty_top.specs.steps.Publisher.{Gave, crumb_messages, CrumbOf, Owed, AreGiven, AreGivenAndTold, gone_on}
 use Rattle.ty_base.specs.Devices.{Output}
 use Rattle.ty_top.specs.declared.publisher.Stop.{Stop}
 use Rattle.ty_intake.specs.declared.intake.IntakeFault.{IntakeFault}
@@ -199,8 +200,11 @@ module _ (c0 : Crumb) (closed : List Closed) (i : ℕ) (b : Closed) (h : i < len
   whole : batches o.ended o.items ≡ front ++ b ∷ drop (i + 1) closed
   whole = o.whole ∙ ap (λ l. o.done ++ l) split ∙ sym (append_assoc o.done (take i closed) (b ∷ drop (i + 1) closed))
 
-  is_next : IsNext (length o.items) front b
+  is_next : IsNext o.ended o.items front b
   is_next = next_of o.ended o.items front b (drop (i + 1) closed) whole
+
+  comes_next : IsNextBatch true (joined front) b.items
+  comes_next = next_at_end o.ended (joined front) b.items is_next.next
 
   front_more : o.done ++ take (i + 1) closed ≡ front ++ b ∷ []
   front_more = ap (λ l. o.done ++ l) (take_more closed i b h ∙ ap (λ x. take i closed ++ x ∷ []) (sym is)) ∙ sym (append_assoc o.done (take i closed) (b ∷ []))
@@ -209,14 +213,14 @@ module _ (c0 : Crumb) (closed : List Closed) (i : ℕ) (b : Closed) (h : i < len
   batch_is =
       let all : list_all batch_fits (take i closed ++ b ∷ drop (i + 1) closed) ≡ true = ap (list_all batch_fits) (sym split) ∙ o.fits in
       let rest : list_all batch_fits (b ∷ drop (i + 1) closed) ≡ true = right (list_all batch_fits (take i closed)) (list_all batch_fits (b ∷ drop (i + 1) closed)) (sym (list_all-append batch_fits (take i closed) (b ∷ drop (i + 1) closed)) ∙ all) in
-      is_batch (joined front) b.items is_next.closed is_next.next (items_within b.items (left (batch_fits b) (list_all batch_fits (drop (i + 1) closed)) rest))
+      is_batch true (joined front) b.items is_next.closed comes_next (items_within b.items (left (batch_fits b) (list_all batch_fits (drop (i + 1) closed)) rest))
 
   module _ (j : ℕ) (c : Crumb) (x y : Output) (p : AreGiven j (Ok tt) c (joined o.done) (joined front) x y) where
     pub cut_is : c.cut ≤ b.cut
     cut_is = omega (arith, p.crumb_of.cut, is_next.cut)
 
     pub few_are : c.number < 2 ^ 40
-    few_are = omega (arith, few_entries c (joined front) p.crumb_of, is_next.within, o.few)
+    few_are = omega (arith, few_entries c (joined front) p.crumb_of, is_next.cut, is_next.within, o.few)
 
     abbrev Steps : Result (Unit {0}) Unwritten → Crumb → Output → Type 0
     Steps r d z = (before : List Item) → IsClosed before → IsNextBatch true before b.items → b.cut ≡ length before + length b.items → CrumbOf c before → AreGiven j r d before (before ++ b.items) y z
@@ -225,7 +229,7 @@ module _ (c0 : Crumb) (closed : List Closed) (i : ℕ) (b : Closed) (h : i < len
     step r d z s =
         let P : List Item → Type 0 = λ l. AreGiven j r d (joined o.done) l x z in
         subst P (sym (joined_more front b) ∙ ap joined (sym front_more))
-        (published_then r j c d (joined o.done) (joined front) (joined front ++ b.items) x y z p (s (joined front) is_next.closed is_next.next is_next.cut p.crumb_of))
+        (published_then r j c d (joined o.done) (joined front) (joined front ++ b.items) x y z p (s (joined front) is_next.closed comes_next is_next.cut p.crumb_of))
 
     stops : (e : Unwritten) (d : Crumb) (z : Output) → Steps (Err e) d z → AreGiven j (Err e) d (joined o.done) (joined (o.done ++ closed)) x z
     stops e d z s =

@@ -22,12 +22,12 @@ use Rattle.ty_intake.specs.declared.intake.IntakeFault.{IntakeFault}
 use Rattle.ty_intake.specs.declared.intake.IntakeFault.TheVariants.{TooMuch}
 use Rattle.ty_intake.specs.Lines.{Feed as FeedSoFar, fed_with, ended_now, no_feed, is_too_much, lines_of, cut_of, cut_lines}
 use Rattle.ty_intake.specs.Faults.{feed_fault, first_line_fault, rest_fault, end_fault}
-use Rattle.ty_intake.specs.Batches.{items_of, is_whole, batches_of, batch_fits, closed_items}
+use Rattle.ty_intake.specs.Batches.{items_of, is_whole, batches_of, batch_fits, closed_items, joined}
 use Rattle.ty_intake.specs.Held.{IntakeHeld, IntakeStands}
 use Rattle.ty_intake.proofs.JoinedBatches.{joined-of, few-of, whole-of, none-of}
 use Rattle.ty_top.specs.Streamed.{streamed}
 use Rattle.ty_top.specs.Endings.{Taken, stated, Streams}
-use Rattle.ty_top.specs.steps.Publisher.{joined, Gave, CrumbOf, Owed, AreGiven, AreGivenAndTold}
+use Rattle.ty_top.specs.steps.Publisher.{Gave, CrumbOf, Owed, AreGiven, AreGivenAndTold}
 use Rattle.ty_top.specs.steps.Stream.{IsReadTo, Stated, StatedPart, IsPieceRead, IsEndRead, end_at, end_by}
 use Rattle.ty_top.specs.declared.ending.StreamEnd.TheVariants as stream_end
 use Rattle.ty_top.specs.declared.publisher.Stop.{Stop}

@@ -4,9 +4,10 @@ ghost use Rattle.ty_base.specs.declared.item.Item.{Item as AnItem};
 ghost use Rattle.ty_base.specs.declared.limits.TheConstants.{INPUT_BYTES};
 ghost use Rattle.ty_wire.specs.Wire.{frames};
 ghost use Rattle.ty_wire.specs.Talk.{opening as opening_of, status_change};
-ghost use Rattle.ty_crumb.specs.Batches.{IsBatch, IsClosed, IsNextBatch};
+ghost use Rattle.ty_base.specs.Batches.{IsBatch, IsClosed, IsNextBatch};
 ghost use Rattle.ty_top.specs.Streamed.{streamed};
-ghost use Rattle.ty_top.specs.steps.Publisher.{Gave, CrumbOf, crumb_messages, Owed, AreGiven, AreGivenAndTold, gone_on, joined};
+ghost use Rattle.ty_intake.specs.Batches.{joined};
+ghost use Rattle.ty_top.specs.steps.Publisher.{Gave, CrumbOf, crumb_messages, Owed, AreGiven, AreGivenAndTold, gone_on};
 
 use std::alloc::Global;
 use ty_base::{NoMemory, Sink, Status, give_all, same_status};

@@ -1,5 +1,5 @@
 -- Breadcrumbs that are published as a feed is read.
-use Rattle.std.specs.Prelude.{◌≡◌, ◌≤◌, ◌<◌, ◌^◌, ℕ, nat_lt, ◌==◌, Bool, true, List, [], ◌++◌, length, flat_map, Option, None, Some, Result, Ok, Err, OnOk, if◌then◌else◌}
+use Rattle.std.specs.Prelude.{◌≡◌, ◌≤◌, ◌<◌, ◌^◌, ℕ, nat_lt, ◌==◌, Bool, true, List, [], ◌++◌, length, Option, None, Some, Result, Ok, Err, OnOk, if◌then◌else◌}
 use Rattle.std.specs.List.{list_all}
 use Rattle.std.specs.Io.KnownBytes.{Appends}
 use Rattle.ty_base.specs.declared.item.Item.{Item}
@@ -17,7 +17,7 @@ use Rattle.ty_intake.specs.declared.batch.Closed.{Closed}
 use Rattle.ty_intake.specs.declared.intake.IntakeFault.{IntakeFault}
 use Rattle.ty_intake.specs.Lines.{Feed as FeedSoFar, ended_now}
 use Rattle.ty_intake.specs.Faults.{feed_fault}
-use Rattle.ty_intake.specs.Batches.{batches, batch_fits, closed_items}
+use Rattle.ty_intake.specs.Batches.{batches, batch_fits, closed_items, joined}
 use Rattle.ty_intake.specs.Held.{IntakeHeld, IntakeStands}
 use Rattle.ty_top.specs.Streamed.{streamed}
 use Rattle.ty_top.specs.declared.publisher.Unwritten.{Unwritten}
@@ -39,9 +39,6 @@ crumb_messages j before c =
     if nat_lt c.number j then [] else (
     if c.number == j then group_messages (snapshot_of c.pairs) (Some c.status) c.number
     else group_messages c.deltas (status_change before c.status) c.number)
-
-abbrev pub joined : List Closed → List Item
-joined bs = flat_map (λ b. b.items) bs
 
 -- the breadcrumb stands for the book of these items
 pub record CrumbOf (crumb : Crumb) (items : List Item) : Type 0 where

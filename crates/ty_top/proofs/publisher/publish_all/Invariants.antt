@@ -1,6 +1,7 @@
 use Rattle.std.proofs.Common.{◌++◌, take}
 use Rattle.std.specs.Prelude.{Ok}
-use Rattle.ty_top.specs.steps.Publisher.{Owed, AreGiven, joined}
+use Rattle.ty_intake.specs.Batches.{joined}
+use Rattle.ty_top.specs.steps.Publisher.{Owed, AreGiven}
 use Rattle.ty_top.proofs.publisher.publish_all.Given as goal
 
 abbrev pub invariant-loop-batch : goal.invariant-loop-batch

@@ -10,18 +10,20 @@ use Rattle.std.proofs.Math.Seq.{take-append_seam, get_or-append_right}
 use Rattle.ty_base.specs.declared.item.Item.{Item}
 use Rattle.ty_base.specs.declared.item.Item.TheVariants.{Mark}
 use Rattle.ty_base.specs.Feed.{is_update, is_closing, closings}
-use Rattle.ty_crumb.specs.Batches.{IsBatch, IsClosed, IsNextBatch}
-use Rattle.ty_base.specs.Limits.{items_fit}
+use Rattle.ty_base.specs.Batches.{IsBatch, IsClosed, IsNextBatch}
+use Rattle.ty_base.specs.Limits.{key_fits, value_fits, items_fit}
+use Rattle.ty_base.specs.Passing.{item_passes}
+use Rattle.ty_base.proofs.Passing.{right, all_take}
 use Rattle.ty_intake.specs.declared.batch.Closed.{Closed}
-use Rattle.ty_intake.specs.Batches.{batches_between, batches}
-use Rattle.ty_top.specs.steps.Publisher.{joined}
+use Rattle.ty_intake.specs.Batches.{batches_between, batches, joined}
 
--- behind the batches bs the next one is b, and there are at least this many items
-pub record IsNext (count : ℕ) (bs : List Closed) (b : Closed) : Type 0 where
+-- behind the batches bs of a list of items the next one is b
+pub record IsNext (ended : Bool) (items : List Item) (bs : List Closed) (b : Closed) : Type 0 where
   pub closed : IsClosed (joined bs)
-  pub next : IsNextBatch true (joined bs) b.items
+  pub next : IsNextBatch ended (joined bs) b.items
   pub cut : b.cut ≡ length (joined bs) + length b.items
-  pub within : length (joined bs) + length b.items ≤ count
+  pub front : joined bs ++ b.items ≡ take b.cut items
+  pub within : b.cut ≤ length items
 
 -- Tests
 
@@ -32,6 +34,12 @@ either false b h = h
 neither : (a b : Bool) → (a || b) ≡ false → a || false ≡ false
 neither true b h = absurd (true≢false h)
 neither false b h = refl
+
+-- where the second test is another one
+still : (a e x y : Bool) → (a || (e && x)) ≡ true → y ≡ true → (a || (e && y)) ≡ true
+still true e x y h k = refl
+still false true x y h k = k
+still false false x y h k = h
 
 first_one : (a e b : Bool) → (a || (e && b)) ≡ true → b ≡ false → a || false ≡ true
 first_one true e b h k = refl
@@ -57,9 +65,9 @@ module _ (ended : Bool) (items : List Item) where
       ap (λ xs. (suffix_len is_update xs % 100 == 0) || false) whole
       ∙ first_one (suffix_len is_update (take q items) % 100 == 0) ended (q == length items) t (ne_eqb q (length items) (λ e. omega arith)))
 
-  next_here : (bs : List Closed) (q p : ℕ) → q < p → p ≤ length items → joined bs ≡ take q items → Stops q
-      → ((x : ℕ) → q < x → x < p → test x ≡ false) → IsNext (length items) bs (record { items = slice_range items q p; cut = p })
-  next_here bs q p h k j s none =
+  next_here : (bs : List Closed) (q p : ℕ) → q < p → p ≤ length items → joined bs ≡ take q items → Stops q → test p ≡ true
+      → ((x : ℕ) → q < x → x < p → test x ≡ false) → IsNext ended items bs (record { items = slice_range items q p; cut = p })
+  next_here bs q p h k j s t none =
       let before : List Item = joined bs in
       let batch : List Item = slice_range items q p in
       let less : p - q ≤ length (drop q items) = omega (arith, length-drop {A = Item}) in
@@ -69,6 +77,10 @@ module _ (ended : Bool) (items : List Item) where
       let sum : q + (p - q) ≡ p = omega arith in
       let all : before ++ batch ≡ take p items = ap (λ xs. xs ++ batch) j ∙ sym (take-add q (p - q) items) ∙ ap (λ n. take n items) sum in
       let len : length (before ++ batch) ≡ length before + length batch = length-append before batch in
+      let whole : take p (before ++ batch) ≡ take p items = ap (λ xs. take p xs) all ∙ take-take p p items (omega arith) in
+      let ends : is_closing ended (before ++ batch) p ≡ true =
+      ap (λ xs. (suffix_len is_update xs % 100 == 0) || (ended && (p == length (before ++ batch)))) whole
+      ∙ still (suffix_len is_update (take p items) % 100 == 0) ended (p == length items) (p == length (before ++ batch)) t (eq-eqb p (length (before ++ batch)) (sym there ∙ sym len)) in
       record {
         closed = subst IsClosed (sym j) (closed_here q (omega arith) s);
         next = record {
@@ -77,10 +89,11 @@ module _ (ended : Bool) (items : List Item) where
               ap (λ xs. (suffix_len is_update (take x xs) % 100 == 0) || false) all
               ∙ ap (λ xs. (suffix_len is_update xs % 100 == 0) || false) (take-take x p items (omega arith))
               ∙ neither (suffix_len is_update (take x items) % 100 == 0) (ended && (x == length items)) (none x (omega arith) (omega arith));
-          closes = either (suffix_len is_update (take (length before + length batch) (before ++ batch)) % 100 == 0) (length before + length batch == length (before ++ batch)) (eq-eqb (length before + length batch) (length (before ++ batch)) (sym len));
+          closes = ap (is_closing ended (before ++ batch)) there ∙ ends;
         };
         cut = sym there;
-        within = omega arith;
+        front = all;
+        within = k;
       }
 
   abbrev head_of : Closed → List Closed → Closed
@@ -92,44 +105,44 @@ module _ (ended : Bool) (items : List Item) where
   tail_of (b ∷ bs) = bs
 
   -- a batch closes at p: it is b, or b is behind it
-  closes_here : (q p : ℕ) (done rest bs : List Closed) (b : Closed) (cs : List Closed) → IsNext (length items) done (record { items = slice_range items q p; cut = p })
-      → ((ds : List Closed) → rest ≡ ds ++ b ∷ cs → IsNext (length items) ((done ++ record { items = slice_range items q p; cut = p } ∷ []) ++ ds) b)
-      → record { items = slice_range items q p; cut = p } ∷ rest ≡ bs ++ b ∷ cs → IsNext (length items) (done ++ bs) b
+  closes_here : (q p : ℕ) (done rest bs : List Closed) (b : Closed) (cs : List Closed) → IsNext ended items done (record { items = slice_range items q p; cut = p })
+      → ((ds : List Closed) → rest ≡ ds ++ b ∷ cs → IsNext ended items ((done ++ record { items = slice_range items q p; cut = p } ∷ []) ++ ds) b)
+      → record { items = slice_range items q p; cut = p } ∷ rest ≡ bs ++ b ∷ cs → IsNext ended items (done ++ bs) b
   closes_here q p done rest [] b cs i later x =
       let here : Closed = record { items = slice_range items q p; cut = p } in
       let same : here ≡ b = ap (head_of here) x in
-      let P : Closed → Type 0 = λ c. IsNext (length items) (done ++ []) c in
-      let Q : List Closed → Type 0 = λ l. IsNext (length items) l here in
+      let P : Closed → Type 0 = λ c. IsNext ended items (done ++ []) c in
+      let Q : List Closed → Type 0 = λ l. IsNext ended items l here in
       subst P same (subst Q (sym (append-nil done)) i)
   closes_here q p done rest (d ∷ ds) b cs i later x =
       let here : Closed = record { items = slice_range items q p; cut = p } in
       let same : here ≡ d = ap (head_of here) x in
-      let P : Closed → Type 0 = λ c. IsNext (length items) (done ++ c ∷ ds) b in
-      let Q : List Closed → Type 0 = λ l. IsNext (length items) l b in
+      let P : Closed → Type 0 = λ c. IsNext ended items (done ++ c ∷ ds) b in
+      let Q : List Closed → Type 0 = λ l. IsNext ended items l b in
       subst P same (subst Q (append_assoc done (here ∷ []) ds) (later ds (ap tail_of x)))
 
   -- from position a on, where the last batch ended at q
   next_from : (k a q : ℕ) (done bs : List Closed) (b : Closed) (cs : List Closed) → a + k ≡ length items → q ≤ a → joined done ≡ take q items → Stops q
-      → ((x : ℕ) → q < x → x ≤ a → test x ≡ false) → batches_between items q (filter test (range_with_len (a + 1) k)) ≡ bs ++ b ∷ cs → IsNext (length items) (done ++ bs) b
+      → ((x : ℕ) → q < x → x ≤ a → test x ≡ false) → batches_between items q (filter test (range_with_len (a + 1) k)) ≡ bs ++ b ∷ cs → IsNext ended items (done ++ bs) b
   next_from zero a q done bs b cs e h j s none w = absurd (omega (arith, ap length w, length-append bs (b ∷ cs)))
   next_from (suc k) a q done bs b cs e h j s none w =
       let here : Closed = record { items = slice_range items q (a + 1); cut = a + 1 } in
       let sum : q + (a + 1 - q) ≡ a + 1 = omega arith in
       let all : joined (done ++ here ∷ []) ≡ take (a + 1) items = joined_more done here ∙ ap (λ xs. xs ++ slice_range items q (a + 1)) j ∙ sym (take-add q (a + 1 - q) items) ∙ ap (λ n. take n items) sum in
-      elim (test (a + 1)) as (λ v. test (a + 1) ≡ v → batches_between items q (cond v ((a + 1) ∷ filter test (range_with_len (a + 1 + 1) k)) (filter test (range_with_len (a + 1 + 1) k))) ≡ bs ++ b ∷ cs → IsNext (length items) (done ++ bs) b) [
+      elim (test (a + 1)) as (λ v. test (a + 1) ≡ v → batches_between items q (cond v ((a + 1) ∷ filter test (range_with_len (a + 1 + 1) k)) (filter test (range_with_len (a + 1 + 1) k))) ≡ bs ++ b ∷ cs → IsNext ended items (done ++ bs) b) [
         | true ↦ λ t x.
-            closes_here q (a + 1) done (batches_between items (a + 1) (filter test (range_with_len (a + 1 + 1) k))) bs b cs (next_here done q (a + 1) (omega arith) (omega arith) j s (λ y l m. none y l (omega arith)))
+            closes_here q (a + 1) done (batches_between items (a + 1) (filter test (range_with_len (a + 1 + 1) k))) bs b cs (next_here done q (a + 1) (omega arith) (omega arith) j s t (λ y l m. none y l (omega arith)))
             (λ ds y. next_from k (a + 1) (a + 1) (done ++ here ∷ []) ds b cs (omega arith) (omega arith) all (inr t) (λ z l m. absurd (omega arith)) y) x
         | false ↦ λ f x. next_from k (a + 1) q done bs b cs (omega arith) (omega arith) j s (λ y l m. elim (eq-or-lt_of_le m) [ inl i ↦ ap test i ∙ f | inr r ↦ none y l (omega arith) ]) x
       ] refl w
 
-pub next_of : (ended : Bool) (items : List Item) (bs : List Closed) (b : Closed) (cs : List Closed) → batches ended items ≡ bs ++ b ∷ cs → IsNext (length items) bs b
+pub next_of : (ended : Bool) (items : List Item) (bs : List Closed) (b : Closed) (cs : List Closed) → batches ended items ≡ bs ++ b ∷ cs → IsNext ended items bs b
 unfolding batches closings
 next_of ended items bs b cs w = next_from ended items (length items) 0 0 [] bs b cs (omega arith) (omega arith) refl (inl refl) (λ x l m. absurd (omega arith)) w
 
 -- The next batch is a batch
 
-module _ (before batch : List Item) (closed : IsClosed before) (next : IsNextBatch true before batch) where
+module _ (ended : Bool) (before batch : List Item) (closed : IsClosed before) (next : IsNextBatch ended before batch) where
   abbrev all : List Item
   all = before ++ batch
 
@@ -218,3 +231,37 @@ module _ (before batch : List Item) (closed : IsClosed before) (next : IsNextBat
         ends = updates (length batch - 1) (omega arith);
         fits = fit;
       }
+
+-- where the feed has ended there is a closing at the end of all items, so this batch comes next then too
+pub next_at_end : (ended : Bool) (before batch : List Item) → IsNextBatch ended before batch → IsNextBatch true before batch
+next_at_end ended before batch h =
+    let n : ℕ = length before + length batch in
+    record {
+      some = h.some;
+      none_before = h.none_before;
+      closes = either (suffix_len is_update (take n (before ++ batch)) % 100 == 0) (n == length (before ++ batch)) (eq-eqb n (length (before ++ batch)) (sym (length-append before batch)));
+    }
+
+-- Items that are within the limits make batches that are
+
+module _ (ended : Bool) (items : List Item) (bs cs : List Closed) (b : Closed) (w : batches ended items ≡ bs ++ b ∷ cs) where
+  abbrev this : IsNext ended items bs b
+  this = next_of ended items bs b cs w
+
+  pub closed_of : IsClosed (joined bs)
+  closed_of = this.closed
+
+  pub next_batch_of : IsNextBatch ended (joined bs) b.items
+  next_batch_of = this.next
+
+  pub cut_of_batch : b.cut ≡ length (joined bs) + length b.items
+  cut_of_batch = this.cut
+
+  pub front_of : (joined bs ++ b.items ≡ take b.cut items) × (b.cut ≤ length items)
+  front_of = (this.front, this.within)
+
+  pub batch_of : items_fit items ≡ true → IsBatch b.items
+  batch_of h =
+      let all : items_fit (joined bs ++ b.items) ≡ true = ap (λ (l : List Item). items_fit l) this.front ∙ all_take (item_passes key_fits value_fits) b.cut items h in
+      is_batch ended (joined bs) b.items this.closed this.next
+      (right (items_fit (joined bs)) (items_fit b.items) (sym (list_all-append (item_passes key_fits value_fits) (joined bs) b.items) ∙ all))
