@@ -3,6 +3,8 @@ pub mod EmptyFeeds
 pub mod Faults
 pub mod FaultyFeeds
 pub mod JoinedBatches
+pub mod JsonTokens
+pub mod JsonValues
 pub mod KeptFaults
 pub mod LastBatches
 pub mod LineFaults
@@ -12,5 +14,6 @@ pub mod NextBatches
 pub mod OpenFeeds
 pub mod ReadLines
 pub mod ReadPieces
+pub mod SmallItems
 pub mod StoppedFeeds
 pub mod UnfinishedLines

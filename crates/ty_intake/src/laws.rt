@@ -2,7 +2,7 @@
 ghost use Rattle.std.specs.Prelude.{◌≡◌, ◌<◌, ◌≤◌, ◌+◌, ◌++◌, ◌∷◌, ◌==◌, ℕ, Bool, false, true, List, [], length, take, Some};
 ghost use Rattle.std.specs.List.{list_any};
 ghost use Rattle.ty_base.specs.Batches.{IsBatch, IsClosed, IsNextBatch};
-ghost use Rattle.ty_base.specs.Limits.{items_fit};
+ghost use Rattle.ty_base.specs.Limits.{items_fit, AreSmall};
 ghost use Rattle.ty_base.specs.declared.item.Item.{Item};
 ghost use Rattle.ty_base.specs.declared.limits.TheConstants.{INPUT_BYTES};
 ghost use Rattle.ty_intake.specs.Lines.{Feed, no_feed, fed_with, ended_now, cut_lines};
@@ -43,6 +43,11 @@ pub fn batches_are_batches()
         → (joined bs ++ b.items ≡ take b.cut items) × (b.cut ≤ length items) }
     ensures batch { (ended : Bool) (items : List Item) (bs cs : List Closed) (b : Closed)
         → batches ended items ≡ bs ++ b ∷ cs → items_fit items ≡ true → IsBatch b.items }
+{}
+
+/// The keys and values of a feed's items are within the limits, and UTF-8, as the feed's good lines are.
+pub fn items_are_small()
+    ensures { (feed : Feed) → AreSmall (items_of feed) }
 {}
 
 /// A fault of a feed stays the fault of each longer feed, with the same closed items: what comes behind it changes

@@ -1,3 +1,4 @@
 pub mod Limits
 pub mod OtherKinds
 pub mod Rows
+pub mod SmallItems
