@@ -1,16 +1,17 @@
 -- A balanced tree is low: 2 to its height is at most the square of one more than its pairs; and no lower than it must be:
--- its pairs are fewer than 2 to its height.
-use Rattle.std.proofs.Common.{◌≡◌, ℕ, ◌+◌, ◌*◌, ◌^◌, ◌≤◌, ◌∷◌, ◌++◌, length, max, sym, ap, subst, ◌∙◌, inl, inr, arith, length-append, pow_mono, pow-add}
+-- its pairs are fewer than 2 to its height. And the greatest height that so many pairs allow.
+use Rattle.std.proofs.Common.{◌≡◌, ℕ, zero, suc, true, false, cond, leb, refl, ◌<◌, ◌+◌, ◌*◌, ◌^◌, ◌≤◌, ◌∷◌, ◌++◌, length, max, sym, ap, subst, ◌∙◌, inl, inr, arith, length-append, pow_mono, pow-add}
 use Rattle.std.proofs.Math.Nat.{mul_comm, add-mul, pow-suc, pow-zero}
 use Rattle.std.proofs.lemmas.Nat.{mul-le}
-use Rattle.std.proofs.lemmas.Bool.{cases_lt}
+use Rattle.std.proofs.lemmas.Bool.{cases_lt, leb-true, leb-false}
 use Rattle.ty_map.specs.Shape.{Shape, Empty, Fork, pairs, height, IsBalanced, DifferByAtMost}
+use Rattle.ty_map.specs.Heights.{greatest_power, greatest_height}
 use Rattle.ty_map.specs.Nodes.{shape_of}
 use Rattle.ty_map.specs.steps.Tree.{IsAvl}
 use Rattle.ty_map.specs.declared.tree.Root.{Root}
 use Rattle.ty_map.specs.declared.tree.Root.TheVariants.{Leaf, Node}
 
-square : (a : ℕ) → a ^ 2 ≡ a * a
+pub square : (a : ℕ) → a ^ 2 ≡ a * a
 square a = pow-suc a 1 ∙ ap (λ x. x * a) (pow-suc a 0 ∙ ap (λ x. x * a) (pow-zero a) ∙ omega arith)
 
 -- the square of a sum
@@ -71,3 +72,40 @@ balanced_is_no_lower (Fork l e r h) b =
 pub root_is_balanced : (r : Root) → IsAvl r → IsBalanced (shape_of r)
 root_is_balanced Leaf g = tt
 root_is_balanced (Node n) g = (g.4, g.5, g.1, g.2)
+
+-- a number is below its power of 2
+below_power : (k : ℕ) → k + 1 ≤ 2 ^ k
+below_power zero = omega arith
+below_power (suc k) =
+    let more : 2 ^ suc k ≡ 2 ^ k * 2 = pow-suc 2 k in
+    omega (arith, more, below_power k)
+
+power_within : (n b : ℕ) → 1 ≤ n → 2 ^ greatest_power n b ≤ n
+power_within n zero h = omega (arith, pow-zero 2)
+power_within n (suc b) h =
+    elim (leb (2 ^ suc b) n) as (λ v. leb (2 ^ suc b) n ≡ v → 2 ^ cond v (suc b) (greatest_power n b) ≤ n) [
+      | true ↦ λ e. leb-true (2 ^ suc b) n e
+      | false ↦ λ e. power_within n b h
+    ] refl
+
+power_greatest : (n b k : ℕ) → k ≤ b → 2 ^ k ≤ n → k ≤ greatest_power n b
+power_greatest n zero k h p = h
+power_greatest n (suc b) k h p =
+    elim (leb (2 ^ suc b) n) as (λ v. leb (2 ^ suc b) n ≡ v → k ≤ cond v (suc b) (greatest_power n b)) [
+      | true ↦ λ e. h
+      | false ↦ λ e.
+          elim (cases_lt k (suc b)) [
+            | inl l ↦ power_greatest n b k (omega arith) p
+            | inr g ↦ let over : 2 ^ suc b ≤ 2 ^ k = pow_mono g in let under : n < 2 ^ suc b = leb-false (2 ^ suc b) n e in omega arith
+          ]
+    ] refl
+
+pub height_within : (count : ℕ) → 2 ^ greatest_height count ≤ (count + 1) ^ 2
+unfolding greatest_height
+height_within count =
+    let some : 1 ≤ (count + 1) ^ 2 = omega (arith, squared count 1) in
+    power_within ((count + 1) ^ 2) ((count + 1) ^ 2) some
+
+pub height_greatest : (count h : ℕ) → 2 ^ h ≤ (count + 1) ^ 2 → h ≤ greatest_height count
+unfolding greatest_height
+height_greatest count h p = power_greatest ((count + 1) ^ 2) ((count + 1) ^ 2) h (omega (arith, below_power h)) p

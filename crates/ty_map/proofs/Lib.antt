@@ -1,3 +1,4 @@
+pub mod Ascending
 pub mod FreshCounts
 pub mod FreshSums
 pub mod Heights

@@ -1,15 +1,24 @@
 // How many nodes of a tree an older one lacks.
-ghost use Rattle.std.specs.Prelude.{◌≡◌, ◌+◌, ◌≤◌, length};
+ghost use Rattle.std.specs.Prelude.{◌≡◌, ◌≤◌, length};
 ghost use Rattle.ty_base.specs.Feed.{same_pair};
-ghost use Rattle.ty_map.specs.Fresh.{fresh, same_shape, is_subtree, HasNoKeyTwice};
+ghost use Rattle.ty_map.specs.Fresh.{fresh, same_shape, is_subtree};
 ghost use Rattle.ty_map.specs.Nodes.{pair_of};
-ghost use Rattle.ty_map.specs.Shape.{Shape, pairs};
+ghost use Rattle.ty_map.specs.Shape.{pairs};
 
+use crate::pairs::Pairs;
 use crate::tree::{Pair, Tree};
 
-/// How many nodes of `new` are in no subtree of `old`, where trees are compared as values. It looks through the whole
-/// of `old` for each of them, so it is for measuring.
-pub fn fresh_nodes(old: &Tree, new: &Tree) -> u64
+/// How many nodes of the tree of `new` are in no subtree of that of `old`, where trees are compared as values. It looks
+/// through the whole of `old` for each of them, so it is for measuring.
+pub fn fresh_nodes(old: &Pairs, new: &Pairs) -> u64
+    ensures value { result ≡ fresh old.now new.now }
+    ensures within { result ≤ length (pairs new.now) }
+{
+    fresh_in(old.tree(), new.tree())
+}
+
+// The same of two trees.
+fn fresh_in(old: &Tree, new: &Tree) -> u64
     ensures value { result ≡ fresh old.now new.now }
     ensures within { result ≤ length (pairs new.now) }
 {
@@ -21,14 +30,8 @@ pub fn fresh_nodes(old: &Tree, new: &Tree) -> u64
     }
     // The count of all pairs is a number of the type, so what is counted here is one too.
     let _all = new.len();
-    1 + fresh_nodes(old, left) + fresh_nodes(old, right)
+    1 + fresh_in(old, left) + fresh_in(old, right)
 }
-
-/// From one tree to a third there are at most as many fresh nodes as by way of a second, where no key of the third
-/// stands twice.
-pub fn fresh_nodes_add_up()
-    ensures { (a b c : Shape) → HasNoKeyTwice c → fresh a c ≤ fresh a b + fresh b c }
-{}
 
 // Whether a tree is one of the subtrees of another.
 fn is_part(tree: &Tree, whole: &Tree) -> bool

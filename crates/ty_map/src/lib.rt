@@ -2,11 +2,13 @@
 #![tactic(auto)]
 
 mod fresh;
+mod laws;
 mod pairs;
 mod tree;
 mod walk;
 
-pub use fresh::{fresh_nodes, fresh_nodes_add_up};
+pub use fresh::fresh_nodes;
+pub use laws::{fresh_nodes_add_up, greatest_heights};
 pub use pairs::Pairs;
 pub use tree::{Pair, Tree};
 pub use walk::Walk;

@@ -6,10 +6,10 @@ use std::test::Fail;
 use ty_base::Text;
 
 fn text(alloc: Global, n: u32) -> Result<Text, Fail> {
-    Ok(Text::from_string(format!(in alloc; "{n:04}")?))
+    Ok(Text::from_string(format!(in alloc; "k{n:04}")?))
 }
 
-// The pairs as a text, `0001=0001 `.
+// The pairs as a text, `k0001=k0001 `.
 fn told(alloc: Global, map: &Pairs) -> Result<String, Fail> {
     let mut out = String::new(alloc);
     for (key, value) in map.walk(alloc)? {
@@ -24,18 +24,18 @@ fn told(alloc: Global, map: &Pairs) -> Result<String, Fail> {
 fn told_by_std(alloc: Global, map: &BTreeMap<u32, u32>) -> Result<String, Fail> {
     let mut out = String::new(alloc);
     for (key, value) in map {
-        let pair = format!(in alloc; "{key:04}={value:04} ")?;
+        let pair = format!(in alloc; "k{key:04}=k{value:04} ")?;
         out.push_str(pair.as_str())?;
     }
     Ok(out)
 }
 
-// The keys from 0 up, or from the last down.
+// The keys from 1 up, or from the last down.
 fn key_at(count: u32, turn: u32, i: u32) -> u32 {
     if turn == 0 {
-        i
+        i.saturating_add(1)
     } else {
-        count.saturating_sub(i).saturating_sub(1)
+        count.saturating_sub(i)
     }
 }
 
@@ -48,6 +48,13 @@ fn filled(alloc: Global, count: u32, turn: u32) -> Result<(Pairs, BTreeMap<u32, 
         model.insert(n, n)?;
     }
     Ok((map, model))
+}
+
+// How many nodes one further put makes.
+fn fresh_after(alloc: Global, map: &Pairs, n: u32) -> Result<u64, Fail> {
+    let key = text(alloc, n)?;
+    let new = map.put(alloc, &key, &key)?;
+    Ok(fresh_nodes(map, &new))
 }
 
 // Whether a map tells what a map of std's does.
@@ -63,10 +70,18 @@ fn alike(alloc: Global, map: &Pairs, model: &BTreeMap<u32, u32>) -> Result<bool,
 #[test]
 fn holds_what_a_map_of_std_holds(rt: HostRuntime) -> Result<(), Fail> {
     let alloc = rt.alloc();
-    for (count, turn) in [(0u32, 0u32), (1, 0), (2, 0), (2, 1), (1000, 0), (1000, 1)] {
+    for (count, turn, most) in [
+        (0u32, 0u32, 1u64),
+        (1, 0, 2),
+        (2, 0, 3),
+        (2, 1, 3),
+        (1000, 0, 60),
+        (1000, 1, 60),
+    ] {
         let (mut map, mut model) = filled(alloc, count, turn)?;
         assert!(rt; alike(alloc, &map, &model)?);
         assert!(rt; map.height() <= 19);
+        assert!(rt; fresh_after(alloc, &map, count.saturating_add(1))? <= most);
         for n in 0..count {
             if n % 3 != 1 {
                 map = map.remove(alloc, &text(alloc, n)?)?;
@@ -87,7 +102,7 @@ fn the_old_map_stays_and_few_nodes_are_new(rt: HostRuntime) -> Result<(), Fail> 
     assert!(rt; alike(alloc, &old, &model)?);
     assert!(rt; !alike(alloc, &new, &model)?);
     assert_eq!(rt; new.copy()?.get(&key).is_some(), true);
-    let fresh = fresh_nodes(old.tree(), new.tree());
+    let fresh = fresh_nodes(&old, &new);
     assert!(rt; fresh > 0 && fresh <= 9);
     Ok(())
 }
