@@ -8,6 +8,7 @@ use Rattle.ty_base.specs.declared.item.Item.{Item}
 use Rattle.ty_base.specs.declared.entry.Entry.{Entry}
 use Rattle.ty_base.specs.Feed.{World, start, folded, last, cuts, world_at, changed, entry, book, published, replay}
 use Rattle.ty_base.proofs.Replay.{replays}
+use Rattle.ty_map.specs.Shape.{pairs}
 use Rattle.ty_crumb.specs.declared.crumb.Crumb.{Crumb}
 use Rattle.ty_crumb.specs.declared.successor.Made.{Made}
 use Rattle.ty_crumb.specs.declared.successor.Made.TheVariants.{Unchanged, Crumb as Next}
@@ -31,14 +32,14 @@ replay_closed items closed =
     ∙ settled_end items closed
 
 -- a crumb with these entries' world, and one behind it whose deltas lead to its map
-pub stands_next : (c d : Crumb) (es : List Entry) → CrumbStands c es → d.number ≡ c.number + 1 → d.pairs ≡ fold changed c.pairs d.deltas
+pub stands_next : (c d : Crumb) (es : List Entry) → CrumbStands c es → d.number ≡ c.number + 1 → pairs d.pairs ≡ fold changed (pairs c.pairs) d.deltas
     → CrumbStands d (es ++ record { cut = d.cut; status = d.status; deltas = d.deltas } ∷ [])
 unfolding replay
 stands_next c d es s n p =
     let e : Entry = record { cut = d.cut; status = d.status; deltas = d.deltas } in
     let w : World = replay es in
-    let pairs : d.pairs ≡ fold changed w.pairs d.deltas = p ∙ ap (λ x. fold changed x.pairs d.deltas) s.world in
-    let world : world_of d ≡ published w e = λ i. record { pairs = pairs i; status = d.status } in
+    let kept : pairs d.pairs ≡ fold changed w.pairs d.deltas = p ∙ ap (λ x. fold changed x.pairs d.deltas) s.world in
+    let world : world_of d ≡ published w e = λ i. record { pairs = kept i; status = d.status } in
     record {
       number = n ∙ ap (λ k. k + 1) s.number ∙ sym (length-append es (e ∷ []));
       cut = sym (fold_push (λ _ x. x.cut) 0 es e);

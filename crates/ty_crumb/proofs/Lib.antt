@@ -2,3 +2,4 @@ pub mod Book
 pub mod Crumbs
 pub mod Limits
 pub mod PendingChanges
+pub mod Spent

@@ -1,16 +1,18 @@
 -- Which entries a crumb stands for, what the next one adds, and the snapshot.
-use Rattle.std.specs.Prelude.{◌≡◌, ◌≢◌, ℕ, Bool, true, false, List, [], ◌∷◌, length, map, Some, refl}
+use Rattle.std.specs.Prelude.{◌≡◌, ◌≢◌, ℕ, ◌+◌, ◌*◌, Bool, true, false, List, [], ◌∷◌, length, map, Some, refl}
 use Rattle.std.specs.List.{fold}
 use Rattle.ty_base.specs.declared.entry.Entry.{Entry}
 use Rattle.ty_base.specs.declared.delta.Delta.{Delta}
 use Rattle.ty_base.specs.declared.delta.Kind.TheVariants.{New}
 use Rattle.ty_base.specs.Feed.{Pairs, World, replay}
+use Rattle.ty_map.specs.Heights.{greatest_height}
+use Rattle.ty_map.specs.Shape.{pairs}
 use Rattle.ty_crumb.specs.declared.crumb.Crumb.{Crumb}
 use Rattle.ty_crumb.specs.declared.successor.Made.{Made}
 use Rattle.ty_crumb.specs.declared.successor.Made.TheVariants.{Unchanged, Crumb as Next}
 
 abbrev pub world_of : Crumb → World
-world_of c = record { pairs = c.pairs; status = c.status }
+world_of c = record { pairs = pairs c.pairs; status = c.status }
 
 -- the cut and the deltas of the last entry, or 0 and none
 abbrev pub last_cut : List Entry → ℕ
@@ -45,6 +47,11 @@ entries_of (Next c) = record { cut = c.cut; status = c.status; deltas = c.deltas
 abbrev pub IsMadeFor : List Entry → List Entry → Made → Type 0
 IsMadeFor old new Unchanged = new ≡ old
 IsMadeFor old new (Next c) = CrumbStands c new × (new ≢ old)
+
+-- how many nodes may be fresh behind so many updates of a map with so many pairs: for each update three for each level of the
+-- highest tree that all these pairs allow, and three more
+abbrev pub most_fresh : ℕ → ℕ → ℕ
+most_fresh size updates = 3 * updates * (greatest_height (size + updates) + 1)
 
 -- The snapshot
 

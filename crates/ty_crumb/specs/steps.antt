@@ -1,2 +1,3 @@
 -- Words that only private clauses need.
 pub mod Deltas
+pub mod Spent

@@ -1,6 +1,7 @@
 // A breadcrumb.
 ghost use Rattle.std.specs.Prelude.{◌≡◌, ◌&&◌, true};
 ghost use Rattle.ty_map.specs.Ascending.{IsAscending};
+ghost use Rattle.ty_map.specs.Shape.{pairs as pairs_of};
 ghost use Rattle.ty_base.specs.Limits.{pairs_fit, deltas_fit};
 
 use std::alloc::Global;
@@ -21,8 +22,8 @@ pub struct Crumb {
     pub pairs: Pairs,
     /// What changed from the breadcrumb before.
     pub deltas: Deltas,
-    pub ghost ascending: { IsAscending pairs },
-    pub ghost within: { (pairs_fit pairs && deltas_fit deltas) ≡ true },
+    pub ghost ascending: { IsAscending (pairs_of pairs) },
+    pub ghost within: { (pairs_fit (pairs_of pairs) && deltas_fit deltas) ≡ true },
 }
 
 impl Crumb {

@@ -2,6 +2,7 @@
 ghost use Rattle.std.specs.Prelude.{◌≡◌, true, IfOk};
 ghost use Rattle.ty_base.specs.Limits.{deltas_fit};
 ghost use Rattle.ty_crumb.specs.Crumbs.{added, snapshot_of};
+ghost use Rattle.ty_map.specs.Shape.{pairs};
 
 use crate::crumb::Crumb;
 use std::alloc::Global;
@@ -9,7 +10,7 @@ use ty_base::{Delta, Deltas, Kind, NoMemory, Text};
 
 /// All pairs of a breadcrumb, each as `New`, in ascending order of the keys' bytes.
 pub fn snapshot(alloc: Global, crumb: &Crumb) -> Result<Deltas, NoMemory>
-    ensures pairs { IfOk result (λ ds. ds ≡ snapshot_of crumb.now.pairs) }
+    ensures pairs { IfOk result (λ ds. ds ≡ snapshot_of (pairs crumb.now.pairs)) }
     ensures within { IfOk result (λ ds. deltas_fit ds ≡ true) }
 {
     let mut deltas = Deltas::new(alloc);

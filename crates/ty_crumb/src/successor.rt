@@ -1,17 +1,20 @@
 // The next breadcrumb.
-ghost use Rattle.std.specs.Prelude.{◌≡◌, ◌==◌, ◌&&◌, ◌+◌, ◌<◌, ◌≤◌, Bool, false, List, ◌++◌, length, IfOk};
+ghost use Rattle.std.specs.Prelude.{◌≡◌, ◌==◌, ◌&&◌, ◌+◌, ◌<◌, ◌≤◌, ℕ, Bool, false, List, ◌++◌, length, IfOk};
 ghost use Rattle.std.specs.Option.{option_copied};
-ghost use Rattle.std.specs.List.{fold, filter_map};
+ghost use Rattle.std.specs.List.{fold, filter_map, count_by};
 ghost use Rattle.ty_base.specs.declared.item.Item.{Item};
 ghost use Rattle.ty_base.specs.declared.entry.Entry.{Entry};
 ghost use Rattle.ty_base.specs.declared.limits.TheConstants.{INPUT_BYTES};
 ghost use Rattle.ty_base.specs.Statuses.{same_status as same};
-ghost use Rattle.ty_base.specs.Feed.{after, book, same_world, change, changed, get};
+ghost use Rattle.ty_base.specs.Feed.{after, book, same_world, change, changed, get, is_update};
+ghost use Rattle.ty_map.specs.Fresh.{fresh};
+ghost use Rattle.ty_map.specs.Shape.{Shape, pairs};
 ghost use Rattle.ty_dedupe.specs.Pending.{pending, last_status};
 ghost use Rattle.ty_base.specs.Batches.{IsBatch, IsClosed, IsNextBatch};
 ghost use Rattle.ty_crumb.specs.Batches.{next_entries};
-ghost use Rattle.ty_crumb.specs.Crumbs.{CrumbStands, world_of, is_unchanged, IfNext, entries_of, IsMadeFor, added};
+ghost use Rattle.ty_crumb.specs.Crumbs.{CrumbStands, world_of, is_unchanged, IfNext, entries_of, IsMadeFor, added, most_fresh};
 ghost use Rattle.ty_crumb.specs.steps.Deltas.{updated, deleted};
+ghost use Rattle.ty_crumb.specs.steps.Spent.{Spent};
 
 use crate::crumb::Crumb;
 use std::alloc::Global;
@@ -30,7 +33,8 @@ pub enum Made {
 
 /// The breadcrumb that a batch makes, at a cut and a time in milliseconds. Nothing is made exactly where the fold of
 /// the items over the last breadcrumb's map and status is the same. Else the next number, map and status are the
-/// fold's, and the deltas are what changed, each key once, in the order of its first item.
+/// fold's, and the deltas are what changed, each key once, in the order of its first item. The new map's tree has few
+/// nodes that the last one lacks.
 pub fn next_crumb(
     alloc: Global,
     last: &Crumb,
@@ -49,6 +53,8 @@ pub fn next_crumb(
     ensures at { IfOk result (λ m. IfNext m (λ c. c.at ≡ now)) }
     ensures world { IfOk result (λ m. IfNext m (λ c. world_of c
         ≡ fold after (world_of last.now) items.now)) }
+    ensures few { IfOk result (λ m. IfNext m (λ c. fresh last.now.pairs c.pairs
+        ≤ most_fresh (length (pairs last.now.pairs)) (count_by is_update items.now))) }
     ensures stands { (entries : List Entry) → CrumbStands last.now entries
         → IfOk result (λ m. IfNext m (λ c. CrumbStands c (entries ++ entries_of m))) }
     ensures book { (ended : Bool) (before : List Item) → IsClosed before
@@ -105,8 +111,10 @@ fn changed_from(
     pending: Vec<(Text, Option<Text>)>,
 ) -> Result<Changed, NoMemory>
     ensures deltas { IfOk result (λ r. r.deltas
-        ≡ filter_map (λ p. change p.0 (get last.now p.0) p.1) pending.items) }
-    ensures pairs { IfOk result (λ r. r.pairs ≡ fold changed last.now r.deltas) }
+        ≡ filter_map (λ p. change p.0 (get (pairs last.now) p.0) p.1) pending.items) }
+    ensures pairs { IfOk result (λ r. pairs r.pairs ≡ fold changed (pairs last.now) r.deltas) }
+    ensures few { IfOk result (λ r. fresh last.now r.pairs
+        ≤ most_fresh (length (pairs last.now)) (length pending.items)) }
 {
     let mut pairs = last.copy()?;
     let mut deltas = Deltas::new(alloc);
@@ -171,11 +179,15 @@ fn deleted(key: Text) -> Delta
 }
 
 // The map with one change.
-fn applied(alloc: Global, pairs: &Pairs, delta: &Delta) -> Result<Pairs, NoMemory>
-    ensures { IfOk result (λ p. p ≡ changed pairs.now delta.now) }
+fn applied(alloc: Global, map: &Pairs, delta: &Delta) -> Result<Pairs, NoMemory>
+    ensures pairs { IfOk result (λ p. pairs p ≡ changed (pairs map.now) delta.now) }
+    ensures spent { (old : Shape) (all before left : ℕ) → left < before
+        → Spent old map.now all before → IfOk result (λ p. Spent old p all left) }
 {
+    // Reads the count of pairs, so that their order is known.
+    let _all = map.len();
     match &delta.value {
-        Some(value) => pairs.put(alloc, &delta.key, value),
-        None => pairs.remove(alloc, &delta.key),
+        Some(value) => map.put(alloc, &delta.key, value),
+        None => map.remove(alloc, &delta.key),
     }
 }

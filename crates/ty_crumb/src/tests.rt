@@ -13,6 +13,7 @@ use ty_base::{
     BATCH_UPDATES, Deltas, INPUT_BYTES, Item, KEY_BYTES, Kind, NoMemory, Text, VALUE_BYTES,
     print_u64, read_status, status_text,
 };
+use ty_map::fresh_nodes;
 
 // An item as a word: `a=1` puts, `a-` removes, a status is its text, and any other word is a blank line.
 fn item(alloc: Global, word: &str) -> Result<Item, NoMemory> {
@@ -226,5 +227,39 @@ fn an_old_breadcrumb_stays_as_it_was(rt: HostRuntime) -> Result<(), Fail> {
     assert!(rt; out.starts_with(one.as_bytes()));
     assert!(rt; out.ends_with(two.as_bytes()));
     assert_eq!(rt; out.len(), one.len() + two.len());
+    Ok(())
+}
+
+// A batch that puts a hundred keys behind so many others: `k0001=1 k0002=1 ` and so on.
+fn hundred(alloc: Global, others: u32) -> Result<String, NoMemory> {
+    let mut script = String::new(alloc);
+    for i in 1..101u32 {
+        let n = others.saturating_add(i);
+        let word = format!(in alloc; "k{n:04}=1 ")?;
+        script.push_str(word.as_str())?;
+    }
+    Ok(script)
+}
+
+#[test]
+fn a_batch_makes_few_nodes(rt: HostRuntime) -> Result<(), Fail> {
+    let alloc = rt.alloc();
+    let mut crumb = Crumb::first(alloc, 0);
+    for i in 0..10u32 {
+        let script = hundred(alloc, i.saturating_mul(100))?;
+        let cut = crumb.cut.saturating_add(100);
+        if let Some(Made::Crumb(made)) = next(alloc, &crumb, script.as_str(), cut)? {
+            crumb = made;
+        }
+    }
+    assert_eq!(rt; crumb.pairs.len(), 1000);
+    assert!(rt; crumb.pairs.height() <= 19);
+    let cut = crumb.cut.saturating_add(1);
+    if let Some(Made::Crumb(made)) = next(alloc, &crumb, "k1001=1", cut)? {
+        assert_eq!(rt; made.pairs.len(), 1001);
+        assert!(rt; fresh_nodes(&crumb.pairs, &made.pairs) <= 60);
+        crumb = made;
+    }
+    assert_eq!(rt; crumb.number, 11);
     Ok(())
 }

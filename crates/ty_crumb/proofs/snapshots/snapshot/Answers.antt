@@ -1,13 +1,14 @@
 use Rattle.std.proofs.Common.{ap, sym, ◌∙◌, [], ◌∷◌, ◌++◌, append-nil, append_assoc}
 use Rattle.ty_base.proofs.Passing.{left}
 use Rattle.ty_base.specs.Limits.{key_fits, value_fits, pairs_fit, deltas_fit}
+use Rattle.ty_map.specs.Shape.{pairs}
 use Rattle.ty_crumb.specs.Crumbs.{snapshot_of}
 use Rattle.ty_crumb.proofs.Limits.{snapshot_passes}
 use Rattle.ty_crumb.proofs.snapshots.snapshot.Goals as goal
 
 pub returns-clause-within : goal.returns-clause-within
 returns-clause-within c =
-    let m = c.args.crumb.now.pairs in
+    let m = pairs c.args.crumb.now.pairs in
     ap deltas_fit (sym (append-nil c.loop-key.deltas) ∙ sym (ap (λ it. c.loop-key.deltas ++ snapshot_of it) c.in-None.ensures.steps.0) ∙ c.loop-key.invariant)
     ∙ snapshot_passes key_fits value_fits m (left (pairs_fit m) (deltas_fit c.args.crumb.now.deltas) c.args.crumb.now.within)
 

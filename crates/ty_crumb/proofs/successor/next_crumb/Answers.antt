@@ -1,14 +1,16 @@
-use Rattle.std.proofs.Common.{◌&&◌, false, refl, ap, sym, subst, ◌∙◌}
+use Rattle.std.proofs.Common.{◌&&◌, false, length, arith, refl, ap, sym, subst, ◌∙◌}
 use Rattle.std.specs.List.{fold}
 use Rattle.ty_base.specs.Feed.{after, book}
 use Rattle.ty_base.proofs.Pairs.{IsInOrder, in_order-after}
 use Rattle.ty_base.proofs.Passing.{left}
 use Rattle.ty_base.specs.Limits.{key_fits, value_fits, pairs_fit, deltas_fit}
+use Rattle.ty_map.specs.Shape.{pairs}
 use Rattle.ty_crumb.specs.Crumbs.{world_of}
 use Rattle.ty_crumb.specs.declared.successor.Made.TheVariants.{Unchanged, Crumb as Next}
 use Rattle.ty_crumb.proofs.Limits.{batch_passes}
 use Rattle.ty_crumb.proofs.PendingChanges.{makes, nothing_told, made_world, made_entries, no_entries}
 use Rattle.ty_crumb.proofs.Crumbs.{stands_next, made_for}
+use Rattle.ty_crumb.proofs.Spent.{most_of_batch}
 use Rattle.ty_crumb.proofs.successor.next_crumb.Goals as goal
 
 pub returns-then-is_same-clause-unchanged : goal.returns-then-is_same-clause-unchanged
@@ -46,7 +48,7 @@ invariant_of-result c =
       within =
           ap (λ x. pairs_fit x && deltas_fit c.in_ok-changed.changed.deltas) made.pairs
           ∙ ap (λ x. pairs_fit (fold after w items).pairs && deltas_fit x) made.deltas
-          ∙ batch_passes key_fits value_fits w items c.requires.batch.fits (left (pairs_fit c.args.last.now.pairs) (deltas_fit c.args.last.now.deltas) c.args.last.now.within);
+          ∙ batch_passes key_fits value_fits w items c.requires.batch.fits (left (pairs_fit (pairs c.args.last.now.pairs)) (deltas_fit c.args.last.now.deltas) c.args.last.now.within);
     }
 
 pub returns-clause-unchanged : goal.returns-clause-unchanged
@@ -72,6 +74,11 @@ returns-clause-world c =
     let s = c.args.last.now.ascending in
     let made = makes w items _ _ _ _ _ s (c.into_vec.ensures ∙ c.in_ok-pairs.ensures.pairs) c.in_ok-pairs.ensures.status c.in_ok-changed.ensures.deltas c.in_ok-changed.ensures.pairs c.unwrap_or-status.ensures in
     made_world w items _ _ _ _ made refl refl
+
+pub returns-clause-few : goal.returns-clause-few
+returns-clause-few c =
+    let batch = most_of_batch (length (pairs c.args.last.now.pairs)) c.args.items.now _ (c.into_vec.ensures ∙ c.in_ok-pairs.ensures.pairs) in
+    omega (arith, c.in_ok-changed.ensures.few, batch)
 
 pub returns-clause-stands : goal.returns-clause-stands
 returns-clause-stands c = λ entries stands. stands_next c.args.last.now _ entries stands refl c.in_ok-changed.ensures.pairs

@@ -1,0 +1,11 @@
+use Rattle.std.specs.Prelude.{Some, None}
+use Rattle.ty_crumb.proofs.Spent.{spent_call}
+use Rattle.ty_crumb.proofs.successor.applied.Goals as goal
+
+pub returns-in-Some-clause-spent : goal.returns-in-Some-clause-spent
+returns-in-Some-clause-spent c = λ old all before left more s.
+    spent_call _ old _ all before left _ (Some _) more s c.len-all.ensures.ascending c.put.ensures.low c.put.ensures.pairs c.put.ensures.few
+
+pub returns-in-None-clause-spent : goal.returns-in-None-clause-spent
+returns-in-None-clause-spent c = λ old all before left more s.
+    spent_call _ old _ all before left _ None more s c.len-all.ensures.ascending c.remove.ensures.low c.remove.ensures.pairs c.remove.ensures.few
