@@ -17,12 +17,13 @@ impl Model for At {
     ghost use Rattle.ty_client.specs.Rebuilt.{Rebuilt};
     ghost use Rattle.std.specs.Prelude.{◌≡◌, true};
     ghost use Rattle.ty_base.specs.Limits.{pairs_fit};
+    ghost use Rattle.ty_map.specs.Shape.{pairs as pairs_of};
 
     ghost Value = { Rebuilt };
 
-    ghost view = { λ a. record { number = a.number; status = a.status; pairs = a.pairs } };
+    ghost view = { λ a. record { number = a.number; status = a.status; pairs = pairs_of a.pairs } };
 
-    ghost invariant = { λ a. pairs_fit a.pairs ≡ true };
+    ghost invariant = { λ a. pairs_fit (pairs_of a.pairs) ≡ true };
 }
 
 impl At {

@@ -4,6 +4,7 @@ ghost use Rattle.std.specs.Option.{option_or};
 ghost use Rattle.std.specs.List.{fold};
 ghost use Rattle.ty_base.specs.Feed.{changed as changed_by};
 ghost use Rattle.ty_base.specs.Limits.{deltas_fit, pairs_fit};
+ghost use Rattle.ty_map.specs.Shape.{pairs as pairs_of};
 ghost use Rattle.ty_wire.specs.Wire.{IsWire, frames};
 ghost use Rattle.ty_client.specs.Places.{later_fault as later, opening_fault as opening, crumb_fault as crumb_end_fault, told_status, told_number, is_status};
 ghost use Rattle.ty_client.specs.Rebuilt.{deltas_in, pong_of};
@@ -35,12 +36,13 @@ impl Model for Stage {
     ghost use Rattle.ty_client.specs.Rebuild.{Staged};
     ghost use Rattle.std.specs.Prelude.{◌≡◌, true};
     ghost use Rattle.ty_base.specs.Limits.{pairs_fit};
+    ghost use Rattle.ty_map.specs.Shape.{pairs as pairs_of};
 
     ghost Value = { Staged };
 
-    ghost view = { λ s. record { frame = s.frame; status = s.status; fresh = s.fresh; number = s.number; pairs = s.pairs } };
+    ghost view = { λ s. record { frame = s.frame; status = s.status; fresh = s.fresh; number = s.number; pairs = pairs_of s.pairs } };
 
-    ghost invariant = { λ s. pairs_fit s.pairs ≡ true };
+    ghost invariant = { λ s. pairs_fit (pairs_of s.pairs) ≡ true };
 }
 
 impl Stage {
@@ -229,9 +231,9 @@ fn answer(alloc: Global, msg: &Msg, up: &mut Vec<u8>) -> Result<(), NoMemory>
 
 fn pairs_after(alloc: Global, pairs: &Pairs, msg: &Msg) -> Result<Pairs, NoMemory>
     requires wire { IsWire msg.now }
-    requires small { pairs_fit pairs.now ≡ true }
-    ensures pairs { IfOk result (λ p. p ≡ fold changed_by pairs.now (deltas_in msg.now)) }
-    ensures small { IfOk result (λ p. pairs_fit p ≡ true) }
+    requires small { pairs_fit (pairs_of pairs.now) ≡ true }
+    ensures pairs { IfOk result (λ p. pairs_of p ≡ fold changed_by (pairs_of pairs.now) (deltas_in msg.now)) }
+    ensures small { IfOk result (λ p. pairs_fit (pairs_of p) ≡ true) }
 {
     match msg {
         Msg::Kvs(deltas) => changed_all(alloc, pairs, deltas.as_slice()),
@@ -242,9 +244,9 @@ fn pairs_after(alloc: Global, pairs: &Pairs, msg: &Msg) -> Result<Pairs, NoMemor
 // The kinds of the deltas aren't checked against the map.
 fn changed_all(alloc: Global, pairs: &Pairs, deltas: &[Delta]) -> Result<Pairs, NoMemory>
     requires limits { deltas_fit deltas.now ≡ true }
-    requires small { pairs_fit pairs.now ≡ true }
-    ensures pairs { IfOk result (λ p. p ≡ fold changed_by pairs.now deltas.now) }
-    ensures small { IfOk result (λ p. pairs_fit p ≡ true) }
+    requires small { pairs_fit (pairs_of pairs.now) ≡ true }
+    ensures pairs { IfOk result (λ p. pairs_of p ≡ fold changed_by (pairs_of pairs.now) deltas.now) }
+    ensures small { IfOk result (λ p. pairs_fit (pairs_of p) ≡ true) }
 {
     let mut staged = pairs.copy()?;
     for delta in deltas {
@@ -254,7 +256,7 @@ fn changed_all(alloc: Global, pairs: &Pairs, deltas: &[Delta]) -> Result<Pairs, 
 }
 
 fn changed(alloc: Global, pairs: &Pairs, delta: &Delta) -> Result<Pairs, NoMemory>
-    ensures { IfOk result (λ p. p ≡ changed_by pairs.now delta.now) }
+    ensures { IfOk result (λ p. pairs_of p ≡ changed_by (pairs_of pairs.now) delta.now) }
 {
     match &delta.value {
         Some(value) => pairs.put(alloc, &delta.key, value),

@@ -3,6 +3,7 @@ ghost use Rattle.std.specs.Prelude.{◌≡◌, ◌≤◌, ◌++◌, codes, lengt
 ghost use Rattle.json.specs.Print.{quoted};
 ghost use Rattle.ty_base.specs.Causes.{Rose};
 ghost use Rattle.ty_base.specs.Fronts.{AppendsFront};
+ghost use Rattle.ty_map.specs.Shape.{pairs as pairs_of};
 ghost use Rattle.ty_client.specs.Text.{standing, pair_line, pair_lines, at_text, rebuilt_text};
 ghost use Rattle.ty_client.specs.steps.Given.{Owes, Wrote};
 
@@ -59,7 +60,7 @@ fn give_pairs<K: Sink>(
     sink: &mut K,
 ) -> Result<(), Unwritten>
     ensures { Wrote result (K.seen sink.old).held (K.seen sink.new).held (K.seen sink.old).faults (K.seen sink.new).faults
-        (bytes.items ++ pair_lines pairs.now) }
+        (bytes.items ++ pair_lines (pairs_of pairs.now)) }
 {
     let mut out = bytes;
     let Ok(walk) = pairs.walk(alloc) else {

@@ -1,7 +1,8 @@
 use Rattle.std.proofs.Common.{◌≡◌, take}
 use Rattle.std.specs.List.{fold}
 use Rattle.ty_base.specs.Feed.{changed}
+use Rattle.ty_map.specs.Shape.{pairs}
 use Rattle.ty_client.proofs.stage.changed_all.Given as goal
 
 abbrev pub invariant-loop-delta : goal.invariant-loop-delta
-invariant-loop-delta l = l.staged ≡ fold changed l.fn.pairs (take l.delta-index l.deltas)
+invariant-loop-delta l = pairs l.staged ≡ fold changed (pairs l.fn.pairs) (take l.delta-index l.deltas)

@@ -1,4 +1,5 @@
 use Rattle.std.proofs.Common.{List, ℕ, ◌++◌, ◌∙◌, ap, sym, Bool}
+use Rattle.ty_map.specs.Shape.{pairs}
 use Rattle.ty_client.specs.Rebuilt.{Rebuilt}
 use Rattle.std.specs.Prelude.{codes}
 use Rattle.ty_client.specs.Text.{standing, at_text, pair_lines}
@@ -12,6 +13,6 @@ returns-then-brief g c =
 pub returns : goal.returns
 returns g c =
     wrote_same _ _ _ _ _ _ _ (
-    ap (λ (l : List ℕ). l ++ pair_lines c.at.inside.pairs) c.in-Ok.ensures
+    ap (λ (l : List ℕ). l ++ pair_lines (pairs c.at.inside.pairs)) c.in-Ok.ensures
     ∙ ap (λ (a : Rebuilt). (codes "at " ++ standing c.args.at.now) ++ pair_lines a.pairs) c.at.view_is
     ∙ full_text c.args.at.now ∙ ap (λ (b : Bool). at_text b c.args.at.now) (sym c.if-brief.false)) c.give_pairs.ensures
