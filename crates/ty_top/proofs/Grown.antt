@@ -13,6 +13,7 @@ use Rattle.ty_base.specs.Feed.{World, after, folded, is_update, is_closing, clos
 use Rattle.ty_base.specs.Batches.{IsClosed, IsNextBatch}
 use Rattle.ty_crumb.specs.Batches.{entry_of, next_entries}
 use Rattle.ty_crumb.specs.declared.crumb.Crumb.{Crumb}
+use Rattle.ty_map.specs.Shape.{pairs}
 use Rattle.ty_crumb.specs.Crumbs.{CrumbStands, snapshot_of}
 use Rattle.ty_crumb.proofs.Book.{the_book_grows}
 use Rattle.ty_intake.specs.declared.batch.Closed.{Closed}
@@ -138,7 +139,7 @@ crumb_told es e j s c at st =
     let longer : List Entry = es ++ e ∷ [] in
     let n : c.number ≡ length es + 1 = st.number ∙ length-append es (e ∷ []) in
     let ds : c.deltas ≡ e.deltas = st.deltas ∙ fold_push (λ _ x. x.deltas) [] es e in
-    let first : List Msg = group_messages (snapshot_of c.pairs) (Some c.status) c.number in
+    let first : List Msg = group_messages (snapshot_of (pairs c.pairs)) (Some c.status) c.number in
     let later : List Msg = group_messages c.deltas (status_change s c.status) c.number in
     elim (leb_tells j (length es)) [
       | inl h ↦
@@ -178,10 +179,10 @@ crumb_opens j s c st =
     opens zero =
         append-nil (ServerHello 1 ∷ group_messages (snapshot_of (replay []).pairs) (Some (replay []).status) 0)
         ∙ ap (λ ms. ServerHello 1 ∷ ms) (sym (
-        ap (λ b. cond b [] (cond (c.number == 0) (group_messages (snapshot_of c.pairs) (Some c.status) c.number) (group_messages c.deltas (status_change s c.status) c.number))) (le-ltb c.number 0 (omega arith))
-        ∙ ap (λ b. cond b (group_messages (snapshot_of c.pairs) (Some c.status) c.number) (group_messages c.deltas (status_change s c.status) c.number)) (eq-eqb c.number 0 st.number)
+        ap (λ b. cond b [] (cond (c.number == 0) (group_messages (snapshot_of (pairs c.pairs)) (Some c.status) c.number) (group_messages c.deltas (status_change s c.status) c.number))) (le-ltb c.number 0 (omega arith))
+        ∙ ap (λ b. cond b (group_messages (snapshot_of (pairs c.pairs)) (Some c.status) c.number) (group_messages c.deltas (status_change s c.status) c.number)) (eq-eqb c.number 0 st.number)
         ∙ ap (λ (w : World). group_messages (snapshot_of w.pairs) (Some w.status) c.number) st.world
         ∙ ap (λ k. group_messages (snapshot_of (replay []).pairs) (Some (replay []).status) k) st.number))
     opens (suc k) =
         none_yet [] (suc k) (omega arith)
-        ∙ ap (λ ms. ServerHello 1 ∷ ms) (sym (ap (λ b. cond b [] (cond (c.number == suc k) (group_messages (snapshot_of c.pairs) (Some c.status) c.number) (group_messages c.deltas (status_change s c.status) c.number))) (lt-ltb c.number (suc k) (omega (arith, st.number)))))
+        ∙ ap (λ ms. ServerHello 1 ∷ ms) (sym (ap (λ b. cond b [] (cond (c.number == suc k) (group_messages (snapshot_of (pairs c.pairs)) (Some c.status) c.number) (group_messages c.deltas (status_change s c.status) c.number))) (lt-ltb c.number (suc k) (omega (arith, st.number)))))

@@ -12,6 +12,7 @@ use Rattle.ty_base.specs.Fronts.{AppendsFront}
 use Rattle.ty_wire.specs.Talk.{group_messages, status_change}
 use Rattle.ty_wire.specs.declared.message.Msg.{Msg}
 use Rattle.ty_crumb.specs.declared.crumb.Crumb.{Crumb}
+use Rattle.ty_map.specs.Shape.{pairs}
 use Rattle.ty_crumb.specs.Crumbs.{CrumbStands, snapshot_of}
 use Rattle.ty_intake.specs.declared.batch.Closed.{Closed}
 use Rattle.ty_intake.specs.declared.intake.IntakeFault.{IntakeFault}
@@ -37,7 +38,7 @@ Gave (Err Short) old new bytes = AppendsFront old.held new.held bytes × (old.fa
 abbrev pub crumb_messages : ℕ → Status → Crumb → List Msg
 crumb_messages j before c =
     if nat_lt c.number j then [] else (
-    if c.number == j then group_messages (snapshot_of c.pairs) (Some c.status) c.number
+    if c.number == j then group_messages (snapshot_of (pairs c.pairs)) (Some c.status) c.number
     else group_messages c.deltas (status_change before c.status) c.number)
 
 -- the breadcrumb stands for the book of these items
