@@ -11,6 +11,7 @@ use std::sync::Wait;
 use ty_account::{Account, Front, Named};
 use ty_base::NoMemory;
 use ty_crumb::Crumb;
+use ty_group::Encoded;
 
 /// What one step of a follower came to.
 #[derive(Clone, Copy, Debug, PartialEq, Eq)]
@@ -60,6 +61,13 @@ impl<L: Named> Follower<L> {
         ensures stands { Within self.now.crumb self.now.known }
     {
         self.place.crumb()
+    }
+
+    /// The deltas of its breadcrumb as bytes, which were made once for all followers.
+    pub fn encoded(&self) -> &Encoded
+        ensures { result.now ≡ self.now.crumb.deltas }
+    {
+        self.place.encoded()
     }
 
     /// What it knows of the account.

@@ -74,7 +74,7 @@ pub fn start<L: Named>(
         front,
         crumb,
     } = opening;
-    let parcel = Arc::new(alloc, Parcel::new(crumb))?;
+    let parcel = Arc::new(alloc, Parcel::new(alloc, crumb)?)?;
     let first = Place::new(Arc::try_clone(&parcel)?, front);
     let chain = Chain::new(alloc, first)?;
     let lobby = Lobby::over(chain.share()?, account);

@@ -11,6 +11,7 @@ use std::sync::Arc;
 use ty_account::{Account, Front, Look, Named, front_copy};
 use ty_base::NoMemory;
 use ty_crumb::Crumb;
+use ty_group::Encoded;
 
 /// A breadcrumb beside a front that knows the entries for which it stands. Contracts see the breadcrumb and what
 /// the front knows.
@@ -54,6 +55,13 @@ impl<L: Named> Place<L> {
         ensures stands { Within self.now.crumb self.now.known }
     {
         &self.parcel.crumb
+    }
+
+    /// The breadcrumb's deltas as bytes.
+    pub fn encoded(&self) -> &Encoded
+        ensures { result.now ≡ self.now.crumb.deltas }
+    {
+        &self.parcel.encoded
     }
 
     /// What is known of the account there.

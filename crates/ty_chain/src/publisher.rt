@@ -144,7 +144,7 @@ impl<L: Named> Publisher<L> {
         ensures issued { OnOk result (self.new ≡ grown next self.old.known cut) }
         ensures same { OnErr result (self.new ≡ self.old) }
     {
-        let parcel = Arc::new(alloc, Parcel::new(next))?;
+        let parcel = Arc::new(alloc, Parcel::new(alloc, next)?)?;
         let copy = Arc::try_clone(&parcel)?;
         self.chain.append(rt, &mut self.pen, copy)?;
         self.parcel = parcel;
