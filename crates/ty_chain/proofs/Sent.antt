@@ -2,7 +2,8 @@
 use denote.RattleType.{RattleType}
 use denote.Param.Send.{IsSend, IsSync, sendable}
 use Rattle.std.proofs.Crossing.{crosses}
-use Rattle.ty_base.proofs.delta.Deltas.TheSendSync as deltas
+use Rattle.ty_base.proofs.delta.Delta.TheSendSync as delta
+use Rattle.ty_base.proofs.list.List.TheSendSync as list
 use Rattle.ty_map.proofs.tree.Pair.TheSendSync as pair
 use Rattle.ty_map.proofs.tree.Tree.TheLaws.TheKnot as tree
 use Rattle.ty_map.specs.contracts.pairs.Pairs as Pairs
@@ -27,10 +28,10 @@ pairs_sync : IsSync Pairs.the_row
 pairs_sync = search (pair.the_send, pair.the_sync, tree.crosses, crosses, sendable) depth 60
 
 crumb_send : IsSend (Crumb.the_field).row
-crumb_send = search (pairs_send, deltas.the_send, sendable) depth 20
+crumb_send = search (pairs_send, list.the_send, delta.the_send, sendable) depth 20
 
 crumb_sync : IsSync (Crumb.the_field).row
-crumb_sync = search (pairs_sync, deltas.the_sync, sendable) depth 20
+crumb_sync = search (pairs_sync, list.the_sync, delta.the_sync, sendable) depth 20
 
 pub parcel_send : IsSend Parcel.the_row
 parcel_send = search (crumb_send, encoded.the_send, sendable) depth 20
@@ -39,28 +40,28 @@ pub parcel_sync : IsSync Parcel.the_row
 parcel_sync = search (crumb_sync, encoded.the_sync, sendable) depth 20
 
 module _ (L : RattleType) (g : Ghosts L.Denot) where
-  place_send : IsSend L → IsSend (Place.the_row L g)
-  place_send s = search (parcel_send, parcel_sync, front.the_send, crosses, sendable) depth 20
+  place_send : IsSend (Place.the_row L g)
+  place_send = search (parcel_send, parcel_sync, front.the_send, crosses, sendable) depth 20
 
-  places_send : IsSend L → IsSend (Places.the_row L g)
-  places_send s = let place = place_send s in search (crosses, sendable) depth 20
+  places_send : IsSend (Places.the_row L g)
+  places_send = let place = place_send in search (crosses, sendable) depth 20
 
-  chain_send : IsSend L → IsSend (Chain.the_field L g).row
-  chain_send s = let places = places_send s in search (crosses, sendable) depth 20
+  chain_send : IsSend (Chain.the_field L g).row
+  chain_send = let places = places_send in search (crosses, sendable) depth 20
 
-  chain_sync : IsSend L → IsSync (Chain.the_field L g).row
-  chain_sync s = let places = places_send s in search (crosses, sendable) depth 20
+  chain_sync : IsSync (Chain.the_field L g).row
+  chain_sync = let places = places_send in search (crosses, sendable) depth 20
 
-  pub lobby_send : IsSend L → IsSend (Lobby.the_row L g)
-  lobby_send s = let chain = chain_send s in search (account.the_send, sendable) depth 20
+  pub lobby_send : IsSend (Lobby.the_row L g)
+  lobby_send = let chain = chain_send in search (account.the_send, sendable) depth 20
 
-  pub lobby_sync : IsSend L → IsSync (Lobby.the_row L g)
-  lobby_sync s = let chain = chain_sync s in search (account.the_sync, sendable) depth 20
+  pub lobby_sync : IsSync (Lobby.the_row L g)
+  lobby_sync = let chain = chain_sync in search (account.the_sync, sendable) depth 20
 
-  pub follower_send : IsSend L → IsSend (Follower.the_row L g)
-  follower_send s = let chain = chain_send s in let place = place_send s in search (account.the_send, sendable) depth 20
+  pub follower_send : IsSend (Follower.the_row L g)
+  follower_send = let chain = chain_send in let place = place_send in search (account.the_send, sendable) depth 20
 
-  pub publisher_send : IsSend L → IsSend (Publisher.the_row L g)
-  publisher_send s = let chain = chain_send s in search (parcel_send, parcel_sync, pen.the_send, crosses, sendable) depth 20
+  pub publisher_send : IsSend (Publisher.the_row L g)
+  publisher_send = let chain = chain_send in search (parcel_send, parcel_sync, pen.the_send, crosses, sendable) depth 20
 
 pub ruleset sent = (lobby_send, lobby_sync, follower_send, publisher_send, front.the_send, front.the_sync)

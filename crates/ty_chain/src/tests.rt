@@ -1,6 +1,7 @@
 // The chain in one thread, where its lobby, its looks and its drop are seen, and in several.
 ghost use Rattle.std.specs.Prelude.{◌≡◌, ◌-◌, true, length, take, nat_le};
 ghost use Rattle.std.specs.List.{list_all, count_by};
+ghost use Rattle.std.specs.Thread.{IsSend, IsSync};
 ghost use Rattle.ty_base.specs.Feed.{is_update as updates};
 ghost use Rattle.ty_base.specs.Passing.{item_passes};
 ghost use Rattle.ty_base.specs.Limits.{key_fits, value_fits, items_fit};
@@ -12,8 +13,8 @@ use std::marker::Brand;
 use std::process::Abort;
 use std::sync::Wait;
 use std::test::Fail;
-use std::thread::{Threads, map_indices, yield_now};
-use ty_account::{Front, Named};
+use std::thread::{Threads, join, map_indices, yield_now};
+use ty_account::{Front, Named, front_copy};
 use ty_base::{Item, NoMemory, Text, print_u64, status_text};
 use ty_crumb::Crumb;
 
@@ -289,6 +290,39 @@ fn follow_in_threads<L: Named + Send + Sync, R: Threads + Wait + Sync>(
     )
 }
 
+// Publishes so many breadcrumbs, and closes the chain whether it could or not.
+fn publish_and_close<L: Named, R: Wait>(
+    rt: &R,
+    alloc: Global,
+    mut publisher: Publisher<L>,
+    count: u64,
+) -> Result<(), NoMemory> {
+    let published = publish_many(rt, alloc, &mut publisher, count);
+    publisher.close(rt);
+    published
+}
+
+// What four followers tell at the end, who step while this thread publishes and closes.
+fn follow_the_publisher<L: Named + Send + Sync, R: Threads + Wait + Sync>(
+    rt: &R,
+    alloc: Global,
+    lobby: &Lobby<L>,
+    front: &Front,
+    publisher: Publisher<L>,
+) -> Result<Vec<Result<Vec<u8>, NoMemory>>, NoMemory>
+    requires { front.now.account ≡ L.account }
+{
+    let (told, published) = join(
+        rt,
+        || -> Result<Vec<Result<Vec<u8>, NoMemory>>, AllocError>
+            requires { IsSync R.row × (IsSend L.row × (IsSync L.row × (front.now.account ≡ L.account))) }
+        { follow_in_threads(rt, alloc, lobby, front) },
+        || publish_and_close(rt, alloc, publisher, 200),
+    );
+    published?;
+    Ok(told?)
+}
+
 fn fan_out<L: Named + Send + Sync, R: Threads + Wait + Sync>(
     rt: &R,
     alloc: Global,
@@ -296,11 +330,9 @@ fn fan_out<L: Named + Send + Sync, R: Threads + Wait + Sync>(
 ) -> Result<Vec<Result<Vec<u8>, NoMemory>>, NoMemory>
     requires { opening.account ≡ L.account }
 {
-    let (lobby, mut publisher) = start::<L>(alloc, opening)?;
-    let published = publish_many(rt, alloc, &mut publisher, 200);
-    let front = publisher.close(rt);
-    published?;
-    Ok(follow_in_threads(rt, alloc, &lobby, &front)?)
+    let (lobby, publisher) = start::<L>(alloc, opening)?;
+    let front = front_copy(publisher.front());
+    follow_the_publisher(rt, alloc, &lobby, &front, publisher)
 }
 
 #[test]
