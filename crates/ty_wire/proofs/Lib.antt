@@ -1,8 +1,11 @@
 pub mod Changed
+pub mod DeltaTexts
+pub mod Escapes
 pub mod Fronts
 pub mod Members
 pub mod Moved
 pub mod Parts
+pub mod Placed
 pub mod Read
 pub mod Readings
 pub mod Sent

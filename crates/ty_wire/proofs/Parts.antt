@@ -17,7 +17,7 @@ use Rattle.ty_wire.specs.Wire.{kind_text, value_text, delta_text, more_deltas, d
 use Rattle.ty_wire.specs.Cut.{value_len, weight, takes, cut_on, cut_deltas}
 use Rattle.ty_wire.specs.declared.message.Msg.TheVariants.{Kvs}
 
-both_of : (a b : Bool) → (a && b) ≡ true → (a ≡ true) × (b ≡ true)
+pub both_of : (a b : Bool) → (a && b) ≡ true → (a ≡ true) × (b ≡ true)
 both_of true b h = (refl, h)
 both_of false b h = absurd (true≢false (sym h))
 
@@ -94,7 +94,7 @@ escape_byte-len : (x : ℕ) → length (escape_byte x) ≤ 6
 unfolding escape_byte
 escape_byte-len x = cond-len (nat_lt 0 (escape_letter x)) _ _ 6 (omega arith) (cond-len (nat_lt x 32) _ _ 6 (omega arith) (omega arith))
 
-escape-len : (s : List ℕ) → length (escape s) ≤ 6 * length s
+pub escape-len : (s : List ℕ) → length (escape s) ≤ 6 * length s
 escape-len [] = omega arith
 escape-len (x ∷ xs) = omega (arith, length-append (escape_byte x) (escape xs), escape_byte-len x, escape-len xs)
 

@@ -75,10 +75,10 @@ is_wire m u f = record { utf8 = body-utf8 m u (both (parts_fit m) _ f).0; fits =
 
 -- ---- groups
 
-abbrev AllUtf8 : List Delta → Type 0
+abbrev pub AllUtf8 : List Delta → Type 0
 AllUtf8 ds = AllByRecursion DeltaHasUtf8 ds
 
-one-more : (ds : List Delta) (d : Delta) → AllUtf8 ds → DeltaHasUtf8 d → AllUtf8 (ds ++ d ∷ [])
+pub one-more : (ds : List Delta) (d : Delta) → AllUtf8 ds → DeltaHasUtf8 d → AllUtf8 (ds ++ d ∷ [])
 one-more [] d a u = (u, tt)
 one-more (x ∷ ds) d a u = (a.0, one-more ds d a.1 u)
 

@@ -2,5 +2,6 @@
 pub mod Bodies
 pub mod Frames
 pub mod Members
+pub mod Placed
 pub mod Sent
 pub mod Tokens

@@ -1,20 +1,23 @@
-// A message's frame, by `json`'s writer.
-ghost use Rattle.std.specs.Prelude.{◌≡◌, ◌≤◌, ◌++◌, length, IfOk, OnOk, OnErr, flat_map, true};
+// A message's frame. A KVs message is written where it will stand, the others by `json`'s writer.
+ghost use Rattle.std.specs.Prelude.{◌≡◌, ◌+◌, ◌≤◌, ◌<◌, ◌++◌, length, flat_map, IfOk, OnOk, OnErr, true};
 ghost use Rattle.std.specs.Int.{to_be_bytes, w32};
 ghost use Rattle.std.specs.Str.{IsUtf8};
-ghost use Rattle.ty_wire.specs.Wire.{IsWire, body, frame, message_fits, kind_text as kind_word, parts_fit as parts};
+ghost use Rattle.json.specs.Filled.{Placed};
+ghost use Rattle.ty_wire.specs.Wire.{IsWire, body, frame, message_fits, parts_fit as parts};
 ghost use Rattle.ty_base.specs.Passing.{delta_passes, option_passes};
 ghost use Rattle.ty_base.specs.Limits.{key_fits, value_fits as is_short, deltas_fit};
 ghost use Rattle.ty_wire.specs.steps.Tokens.{msg_tokens, kvs_tokens, delta_tokens, number_tokens, value_tokens};
 ghost use Rattle.ty_wire.specs.declared.message.Msg.TheVariants.{ClientHello, Kvs, Status as StatusMsg};
 
 use crate::frame::HEAD_BYTES;
+use crate::kvs::{kind_text, kvs_len, place_kvs};
 use crate::message::Msg;
+use crate::place::{lengthen, place};
+use crate::quoted::LANES;
 use json::Writer;
 use std::alloc::Global;
 use ty_base::{
-    BODY_BYTES, Delta, KEY_BYTES, Kind, MESSAGE_DELTAS, NoMemory, Status, Text, VALUE_BYTES,
-    status_text,
+    BODY_BYTES, Delta, KEY_BYTES, MESSAGE_DELTAS, NoMemory, Status, Text, VALUE_BYTES, status_text,
 };
 
 /// Whether a message has a frame. A KVs message has 1 to `MESSAGE_DELTAS` deltas with keys of at
@@ -25,8 +28,21 @@ pub fn fits(alloc: Global, msg: &Msg) -> Result<bool, NoMemory>
     if !parts_fit(msg) {
         return Ok(false);
     }
-    let text = body_of(alloc, msg)?;
-    Ok(text.len() <= BODY_BYTES)
+    Ok(body_len(alloc, msg)? <= BODY_BYTES)
+}
+
+// The length of a message's body.
+fn body_len(alloc: Global, msg: &Msg) -> Result<usize, NoMemory>
+    requires { parts msg.now ≡ true }
+    ensures { IfOk result (λ n. n ≡ length (body msg.now)) }
+{
+    match msg {
+        Msg::Kvs(deltas) => Ok(kvs_len(deltas.as_slice())),
+        msg => {
+            let text = body_of(alloc, msg)?;
+            Ok(text.as_slice().len())
+        }
+    }
 }
 
 /// Appends a message's frame. Want of memory leaves what was there.
@@ -36,23 +52,40 @@ pub fn write(alloc: Global, msg: &Msg, out: &mut Vec<u8>) -> Result<(), NoMemory
     ensures wire { OnOk result (IsWire msg.now) }
     ensures err { OnErr result (out.new.items ≡ out.old.items) }
 {
-    let text = body_of(alloc, msg)?;
-    append_framed(&text, out)
+    match msg {
+        Msg::Kvs(deltas) => write_deltas(deltas.as_slice(), out),
+        msg => {
+            let text = body_of(alloc, msg)?;
+            append_framed(&text, out)
+        }
+    }
 }
 
 // The same for the KVs message of these deltas.
-pub(crate) fn write_deltas(
-    alloc: Global,
-    deltas: &[Delta],
-    out: &mut Vec<u8>,
-) -> Result<(), NoMemory>
+pub(crate) fn write_deltas(deltas: &[Delta], out: &mut Vec<u8>) -> Result<(), NoMemory>
     requires { message_fits (Kvs deltas.now) ≡ true }
     ensures ok { OnOk result (out.new.items ≡ out.old.items ++ frame (Kvs deltas.now)) }
     ensures wire { OnOk result (IsWire (Kvs deltas.now)) }
     ensures err { OnErr result (out.new.items ≡ out.old.items) }
 {
-    let text = kvs_body(alloc, deltas)?;
-    append_framed(&text, out)
+    let at = out.as_slice().len();
+    let len = kvs_len(deltas);
+    lengthen(out, HEAD_BYTES + len + LANES)?;
+    let end = place_frame(out.as_mut_slice(), at, len, deltas);
+    out.truncate(end);
+    Ok(())
+}
+
+// Puts the body of this length behind its length.
+fn place_frame(buf: &mut [u8], at: usize, len: usize, deltas: &[Delta]) -> usize
+    requires some { 0 < length deltas.now }
+    requires len { len ≡ length (body (Kvs deltas.now)) }
+    requires short { len ≤ BODY_BYTES }
+    requires room { at + (HEAD_BYTES + len + LANES) ≤ length buf.old }
+    ensures { Placed buf.old buf.new at (frame (Kvs deltas.now)) result }
+{
+    let at = place(buf, at, &(len as u32).to_be_bytes());
+    place_kvs(buf, at, deltas)
 }
 
 // Appends a body behind its length.
@@ -76,16 +109,6 @@ pub(crate) fn body_of(alloc: Global, msg: &Msg) -> Result<Vec<u8>, NoMemory>
 {
     let mut writer = Writer::new(Vec::new(alloc));
     put_msg(&mut writer, msg)?;
-    Ok(writer.into_inner())
-}
-
-// The body of the KVs message of these deltas.
-fn kvs_body(alloc: Global, deltas: &[Delta]) -> Result<Vec<u8>, NoMemory>
-    ensures body { IfOk result (λ v. v.items ≡ body (Kvs deltas.now)) }
-    ensures utf8 { IfOk result (λ _. IsUtf8 (body (Kvs deltas.now))) }
-{
-    let mut writer = Writer::new(Vec::new(alloc));
-    put_kvs(&mut writer, deltas)?;
     Ok(writer.into_inner())
 }
 
@@ -200,16 +223,6 @@ fn put_rest(writer: &mut Writer, value: &Option<Text>) -> Result<(), NoMemory>
     }
     writer.end_object()?;
     Ok(())
-}
-
-fn kind_text(kind: Kind) -> &'static str
-    ensures { result.now ≡ kind_word kind }
-{
-    match kind {
-        Kind::New => "new",
-        Kind::Updated => "updated",
-        Kind::Deleted => "deleted",
-    }
 }
 
 // Whether a message fits but for the length of its body. A number behind a reference is known to

@@ -75,7 +75,7 @@ fn append_front(alloc: Global, deltas: &[Delta], out: &mut Vec<u8>) -> Result<us
     ensures err { OnErr result (out.new.items ≡ out.old.items) }
 {
     let len = front_len(deltas);
-    write_deltas(alloc, &deltas[..len], out)?;
+    write_deltas(&deltas[..len], out)?;
     Ok(len)
 }
 

@@ -10,9 +10,12 @@ mod fault;
 mod frame;
 mod frames;
 mod group;
+mod kvs;
 mod laws;
 mod message;
 mod partial_frame;
+mod place;
+mod quoted;
 #[cfg(test)]
 mod tests;
 
