@@ -9,7 +9,6 @@ use Rattle.ty_intake.specs.Lines.{Feed as FeedSoFar}
 use Rattle.ty_intake.specs.Faults.{feed_fault}
 use Rattle.ty_intake.specs.Batches.{items_of}
 use Rattle.ty_intake.proofs.JoinedBatches.{few-of}
-use Rattle.ty_base.specs.Limits.{AreSmall}
 use Rattle.ty_top.specs.Streamed.{streamed, worlds_from}
 use Rattle.ty_top.specs.Endings.{Taken, Streams, whole_feed}
 use Rattle.ty_top.specs.declared.ending.StreamEnd.TheVariants.{Done}
@@ -17,7 +16,7 @@ use Rattle.ty_top.proofs.FollowedStreams.{told, all_taken}
 
 -- known bytes behind none
 
-appended : (new : Option (List ℕ)) (text : List ℕ) → Appends (Some []) new text → new ≡ Some text
+pub appended : (new : Option (List ℕ)) (text : List ℕ) → Appends (Some []) new text → new ≡ Some text
 appended None text h = absurd h
 appended (Some ys) text h = ap (λ (x : List ℕ). Some x) h
 

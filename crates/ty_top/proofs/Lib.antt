@@ -9,4 +9,5 @@ pub mod StreamReading
 pub mod Statuses
 pub mod FollowedStreams
 pub mod BothEnds
+pub mod FeedStreams
 pub mod Complete
