@@ -5,20 +5,20 @@ use Rattle.json.specs.Filled.{Placed}
 use Rattle.json.specs.Run.{is_plain}
 use Rattle.json.specs.Print.{escape_byte, escape}
 use Rattle.json.proofs.Printed.Places.{Placed-then}
-use Rattle.ty_wire.specs.steps.Placed.{Owes, PlacesPart}
+use Rattle.ty_wire.specs.steps.Placed.{PlacedSoFar, PlacesPart}
 use Rattle.ty_wire.proofs.Escapes.{escape-run, escape-next}
 
-pub owes-first : (a : List ℕ) (at : ℕ) (whole : List ℕ) → Owes a a at at whole whole
+pub owes-first : (a : List ℕ) (at : ℕ) (whole : List ℕ) → PlacedSoFar a a at at whole whole
 owes-first a at whole = record { bytes = refl; moved = refl; len = refl }
 
-pub owes-step : {a b c : List ℕ} {at i j : ℕ} {whole rest : List ℕ} (piece more : List ℕ) → Owes a b at i whole rest → rest ≡ piece ++ more → Placed b c i piece j → Owes a c at j whole more
+pub owes-step : {a b c : List ℕ} {at i j : ℕ} {whole rest : List ℕ} (piece more : List ℕ) → PlacedSoFar a b at i whole rest → rest ≡ piece ++ more → Placed b c i piece j → PlacedSoFar a c at j whole more
 owes-step {a} {b} {c} {at} {i} {j} {whole} {rest} piece more o e p = record {
   bytes = ap (λ l. l ++ more) p.bytes ∙ append_assoc (take i b) piece more ∙ ap (λ l. take i b ++ l) (sym e) ∙ o.bytes;
   moved = omega (arith, p.moved, o.moved, ap length e, length-append piece more);
   len = p.len ∙ o.len;
 }
 
-pub owes-end : {a b : List ℕ} {at i : ℕ} {whole rest : List ℕ} → Owes a b at i whole rest → rest ≡ [] → Placed a b at whole i
+pub owes-end : {a b : List ℕ} {at i : ℕ} {whole rest : List ℕ} → PlacedSoFar a b at i whole rest → rest ≡ [] → Placed a b at whole i
 owes-end {a} {b} {at} {i} {whole} {rest} o e = record {
   bytes = sym (append-nil (take i b)) ∙ ap (λ l. take i b ++ l) (sym e) ∙ o.bytes;
   moved = omega (arith, o.moved, ap length e);
@@ -58,5 +58,5 @@ part-byte a b c at n end text x w e h p q =
     }
 
 -- the next part of a text that is owed from `from` on
-pub owes-part : (a b c : List ℕ) (at i from n j : ℕ) (text : List ℕ) → Owes a b at i (escape text) (escape (drop from text)) → PlacesPart b c i (drop from text) n j → Owes a c at j (escape text) (escape (drop (from + n) text))
+pub owes-part : (a b c : List ℕ) (at i from n j : ℕ) (text : List ℕ) → PlacedSoFar a b at i (escape text) (escape (drop from text)) → PlacesPart b c i (drop from text) n j → PlacedSoFar a c at j (escape text) (escape (drop (from + n) text))
 owes-part a b c at i from n j text o p = owes-step p.piece (escape (drop (from + n) text)) o (p.split ∙ ap (λ (l : List ℕ). p.piece ++ escape l) (drop-drop n from text)) p.placed

@@ -4,7 +4,7 @@ use Rattle.json.specs.Filled.{Placed}
 use Rattle.json.specs.Print.{escape}
 
 -- `whole` is to stand from `at` on: it is put as far as `end`, and what is left of it is `rest`
-pub record Owes (old new : List ℕ) (at end : ℕ) (whole rest : List ℕ) : Type 0 where
+pub record PlacedSoFar (old new : List ℕ) (at end : ℕ) (whole rest : List ℕ) : Type 0 where
   pub bytes : take end new ++ rest ≡ take at old ++ whole
   pub moved : end + length rest ≡ at + length whole
   pub len : length new ≡ length old
