@@ -1,12 +1,12 @@
 -- The tokens of a JSON text that is UTF-8: their strings are UTF-8.
-use Rattle.std.proofs.Common.{◌≡◌, ℕ, zero, suc, ◌+◌, ◌*◌, ◌-◌, ◌<◌, ◌≤◌, Bool, true, false, cond, ◌&&◌, ◌||◌, ◌==◌, nat_eq, nat_lt, nat_le, List, [], ◌∷◌, ◌++◌, length, take, drop, get_or, refl, sym, ap, subst, ◌∙◌, inl, inr, arith, true≢false, append_assoc, append-nil, length-append, eqb-true, lt-ltb, le-ltb}
+use Rattle.std.proofs.Common.{◌≡◌, ℕ, ◌+◌, ◌*◌, ◌-◌, ◌<◌, ◌≤◌, Bool, true, false, cond, ◌&&◌, ◌||◌, ◌==◌, nat_eq, nat_lt, nat_le, List, [], ◌∷◌, ◌++◌, length, drop, get_or, refl, sym, ap, subst, ◌∙◌, inl, inr, arith, true≢false, append_assoc, append-nil, length-append, eqb-true, lt-ltb, le-ltb}
 use Rattle.std.specs.Prelude.{Option, None, Some, option_and_then, is_some, unwrap_or}
 use Rattle.std.specs.Str.{IsUtf8}
 use Rattle.std.specs.Char.{encode_utf8, IsScalar, is_digit, digit_value}
 use Rattle.std.proofs.Math.Seq.{get_or-append_seam, take-append_seam, drop-append_seam}
 use Rattle.std.proofs.lemmas.Bool.{cases_lt, and_parts, le-leb, leb-true, ltb-true}
 use Rattle.std.proofs.lemmas.Bool.Decides.{nat_tests}
-use Rattle.std.proofs.lemmas.Str.{IsUtf8-append, IsUtf8-nil, IsUtf8-encode, IsUtf8-take, IsUtf8-drop, IsUtf8-past_char, IsCharBoundary-before_ascii, encode_ascii}
+use Rattle.std.proofs.lemmas.Str.{IsUtf8-append, IsUtf8-encode, IsUtf8-take, IsUtf8-drop, IsUtf8-past_char, IsCharBoundary-before_ascii, encode_ascii}
 use lib.Utf8.{low_scalar}
 use Rattle.json.specs.Text.{Within, plain, after_backslash, after_u, after_high, content, prepend, code_unit, short_escape, is_high_surrogate, is_low_surrogate, surrogate_pair}
 use Rattle.json.specs.Token.{Token, begin_object, end_object, begin_array, end_array, key, string, number, boolean, null, bad}
@@ -65,11 +65,11 @@ unfolding code_unit
 four_digits a b c d u e =
     either_way (is_digit a 16 && is_digit b 16 && is_digit c 16 && is_digit d 16) (Some (digit_value a * 4096 + digit_value b * 256 + digit_value c * 16 + digit_value d)) None (Some u)
     (λ t h.
-        let p = and_parts (is_digit a 16 && is_digit b 16 && is_digit c 16) (is_digit d 16) t in
-        let q = and_parts (is_digit a 16 && is_digit b 16) (is_digit c 16) p.0 in
-        let r = and_parts (is_digit a 16) (is_digit b 16) q.0 in
-        let same : digit_value a * 4096 + digit_value b * 256 + digit_value c * 16 + digit_value d ≡ u = the_same _ u h in
-        (hex_is_ascii a r.0, hex_is_ascii b r.1, hex_is_ascii c q.1, hex_is_ascii d p.1, omega (arith, same, hex_is_small a r.0, hex_is_small b r.1, hex_is_small c q.1, hex_is_small d p.1)))
+    let p = and_parts (is_digit a 16 && is_digit b 16 && is_digit c 16) (is_digit d 16) t in
+    let q = and_parts (is_digit a 16 && is_digit b 16) (is_digit c 16) p.0 in
+    let r = and_parts (is_digit a 16) (is_digit b 16) q.0 in
+    let same : digit_value a * 4096 + digit_value b * 256 + digit_value c * 16 + digit_value d ≡ u = the_same _ u h in
+    (hex_is_ascii a r.0, hex_is_ascii b r.1, hex_is_ascii c q.1, hex_is_ascii d p.1, omega (arith, same, hex_is_small a r.0, hex_is_small b r.1, hex_is_small c q.1, hex_is_small d p.1)))
     (λ t h. not_there u h) e
 
 short_is_ascii : (x c : ℕ) → short_escape x ≡ Some c → (x < 128) × (c < 128)
@@ -135,21 +135,21 @@ content_utf8 plain (x ∷ xs) before s g e =
     either_way (x == 34) _ _ (Some s)
     (λ q h. subst (λ t. IsUtf8 (before ++ t)) (the_same [] s h) (subst IsUtf8 (sym (append-nil before)) (beside before xs x (omega (arith, eqb-true x 34 q)) g).0))
     (λ _ h. either_way (x == 92) _ _ (Some s)
-        (λ q k. content_utf8 after_backslash xs before s (beside before xs x (omega (arith, eqb-true x 92 q)) g) k)
-        (λ _ k. either_way (nat_lt x 32) _ _ (Some s)
-            (λ _ l. not_there s l)
-            (λ _ l. prepended (x ∷ []) (content plain xs) before s (λ t m. content_utf8 plain xs (before ++ x ∷ []) t (subst IsUtf8 (sym (append_assoc before (x ∷ []) xs)) g) m) l)
-            k)
-        h)
+    (λ q k. content_utf8 after_backslash xs before s (beside before xs x (omega (arith, eqb-true x 92 q)) g) k)
+    (λ _ k. either_way (nat_lt x 32) _ _ (Some s)
+    (λ _ l. not_there s l)
+    (λ _ l. prepended (x ∷ []) (content plain xs) before s (λ t m. content_utf8 plain xs (before ++ x ∷ []) t (subst IsUtf8 (sym (append_assoc before (x ∷ []) xs)) g) m) l)
+    k)
+    h)
     e
 content_utf8 after_backslash [] before s g e = not_there s e
 content_utf8 after_backslash (x ∷ xs) before s g e =
     either_way (x == 117) _ _ (Some s)
     (λ q h. content_utf8 after_u xs before s (g.0, behind x xs (omega (arith, eqb-true x 117 q)) g.1) h)
     (λ _ h.
-        let r = was_there (short_escape x) (λ c. prepend (c ∷ []) (content plain xs)) s h in
-        let l = short_is_ascii x r.0 r.1 in
-        prepended (r.0 ∷ []) (content plain xs) before s (λ t m. content_utf8 plain xs (before ++ r.0 ∷ []) t (put_in before (r.0 ∷ []) xs g.0 (one_byte r.0 l.1) (behind x xs l.0 g.1)) m) r.2)
+    let r = was_there (short_escape x) (λ c. prepend (c ∷ []) (content plain xs)) s h in
+    let l = short_is_ascii x r.0 r.1 in
+    prepended (r.0 ∷ []) (content plain xs) before s (λ t m. content_utf8 plain xs (before ++ r.0 ∷ []) t (put_in before (r.0 ∷ []) xs g.0 (one_byte r.0 l.1) (behind x xs l.0 g.1)) m) r.2)
     e
 content_utf8 after_u [] before s g e = not_there s e
 content_utf8 after_u (a ∷ []) before s g e = not_there s e
@@ -162,9 +162,9 @@ content_utf8 after_u (a ∷ b ∷ c ∷ d ∷ xs) before s g e =
     either_way (is_high_surrogate r.0) _ _ (Some s)
     (λ q h. content_utf8 (after_high r.0) xs before s (g.0, rest, q) h)
     (λ p h. either_way (is_low_surrogate r.0) _ _ (Some s)
-        (λ _ k. not_there s k)
-        (λ q k. prepended (encode_utf8 r.0) (content plain xs) before s (λ t m. content_utf8 plain xs (before ++ encode_utf8 r.0) t (put_in before (encode_utf8 r.0) xs g.0 (IsUtf8-encode r.0 (unit_is_scalar r.0 n.4 p q)) rest) m) k)
-        h)
+    (λ _ k. not_there s k)
+    (λ q k. prepended (encode_utf8 r.0) (content plain xs) before s (λ t m. content_utf8 plain xs (before ++ encode_utf8 r.0) t (put_in before (encode_utf8 r.0) xs g.0 (IsUtf8-encode r.0 (unit_is_scalar r.0 n.4 p q)) rest) m) k)
+    h)
     r.2
 content_utf8 (after_high h) [] before s g e = not_there s e
 content_utf8 (after_high h) (x ∷ []) before s g e = not_there s e
@@ -175,15 +175,15 @@ content_utf8 (after_high h) (x ∷ y ∷ a ∷ b ∷ c ∷ []) before s g e = no
 content_utf8 (after_high h) (x ∷ y ∷ a ∷ b ∷ c ∷ d ∷ xs) before s g e =
     either_way ((x == 92) && (y == 117)) _ None (Some s)
     (λ t k.
-        let z = and_parts (x == 92) (y == 117) t in
-        let r = was_there (code_unit a b c d) (λ l. cond (is_low_surrogate l) (prepend (encode_utf8 (surrogate_pair h l)) (content plain xs)) None) s k in
-        let n = four_digits a b c d r.0 r.1 in
-        let six : IsUtf8 (a ∷ b ∷ c ∷ d ∷ xs) = behind y (a ∷ b ∷ c ∷ d ∷ xs) (omega (arith, eqb-true y 117 z.1)) (behind x (y ∷ a ∷ b ∷ c ∷ d ∷ xs) (omega (arith, eqb-true x 92 z.0)) g.1) in
-        let rest : IsUtf8 xs = behind d xs n.3 (behind c (d ∷ xs) n.2 (behind b (c ∷ d ∷ xs) n.1 (behind a (b ∷ c ∷ d ∷ xs) n.0 six))) in
-        either_way (is_low_surrogate r.0) _ None (Some s)
-        (λ q m. prepended (encode_utf8 (surrogate_pair h r.0)) (content plain xs) before s (λ v w. content_utf8 plain xs (before ++ encode_utf8 (surrogate_pair h r.0)) v (put_in before (encode_utf8 (surrogate_pair h r.0)) xs g.0 (IsUtf8-encode (surrogate_pair h r.0) (pair_is_scalar h r.0 g.2 q)) rest) w) m)
-        (λ _ m. not_there s m)
-        r.2)
+    let z = and_parts (x == 92) (y == 117) t in
+    let r = was_there (code_unit a b c d) (λ l. cond (is_low_surrogate l) (prepend (encode_utf8 (surrogate_pair h l)) (content plain xs)) None) s k in
+    let n = four_digits a b c d r.0 r.1 in
+    let six : IsUtf8 (a ∷ b ∷ c ∷ d ∷ xs) = behind y (a ∷ b ∷ c ∷ d ∷ xs) (omega (arith, eqb-true y 117 z.1)) (behind x (y ∷ a ∷ b ∷ c ∷ d ∷ xs) (omega (arith, eqb-true x 92 z.0)) g.1) in
+    let rest : IsUtf8 xs = behind d xs n.3 (behind c (d ∷ xs) n.2 (behind b (c ∷ d ∷ xs) n.1 (behind a (b ∷ c ∷ d ∷ xs) n.0 six))) in
+    either_way (is_low_surrogate r.0) _ None (Some s)
+    (λ q m. prepended (encode_utf8 (surrogate_pair h r.0)) (content plain xs) before s (λ v w. content_utf8 plain xs (before ++ encode_utf8 (surrogate_pair h r.0)) v (put_in before (encode_utf8 (surrogate_pair h r.0)) xs g.0 (IsUtf8-encode (surrogate_pair h r.0) (pair_is_scalar h r.0 g.2 q)) rest) w) m)
+    (λ _ m. not_there s m)
+    r.2)
     (λ _ k. not_there s k)
     e
 

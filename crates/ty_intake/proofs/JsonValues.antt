@@ -1,9 +1,8 @@
 -- The value of a JSON text that is UTF-8: its strings and its compact text are UTF-8.
-use Rattle.std.proofs.Common.{◌≡◌, ℕ, zero, suc, Bool, true, false, cond, List, [], ◌∷◌, ◌++◌, length, decimal, codes, refl, sym, ap, subst, ◌∙◌, arith}
+use Rattle.std.proofs.Common.{◌≡◌, ℕ, zero, suc, Bool, true, false, List, [], ◌∷◌, ◌++◌, length, decimal, refl, subst, arith}
 use Rattle.std.specs.Prelude.{ℤ, pos, negsuc, Option, None, Some, option_map, option_and_then}
 use Rattle.std.specs.Str.{IsUtf8}
 use Rattle.std.specs.Fmt.{signed_decimal}
-use Rattle.std.specs.declared.cmp.Ordering.{Ordering}
 use Rattle.std.specs.declared.cmp.Ordering.TheVariants.{Less, Equal, Greater}
 use Rattle.std.specs.Ordering.{nat_cmp, match_ordering}
 use Rattle.std.specs.Cmp.Lexicographic.{slice_cmp}
@@ -11,7 +10,7 @@ use Rattle.std.proofs.lemmas.Str.{IsUtf8-append, IsUtf8-nil}
 use Rattle.std.proofs.DigitsParse.{digits-IsUtf8}
 use Rattle.json.specs.Token.{Token, begin_object, end_object, begin_array, end_array, key, string, number, boolean, null, bad}
 use Rattle.json.specs.Lex.{tokens}
-use Rattle.json.specs.Print.{quoted, token_text}
+use Rattle.json.specs.Print.{quoted}
 use Rattle.json.specs.Json as json
 use Rattle.json.specs.Json.{Parse, parse_map, after_end_array, read_key, items_step, members_step, items, members, value_with, value, if_last}
 use Rattle.json.proofs.Printed.Utf8.{IsUtf8-are_ascii, IsUtf8-quoted, IsUtf8-boolean}
@@ -20,7 +19,7 @@ use Rattle.serde_json.specs.Data.{Data, Num, put}
 use Rattle.serde_json.specs.Read.{number_of, of_json, of_items, of_members, read, max_depth}
 use Rattle.serde_json.specs.Find.{get_member, get, as_str}
 use Rattle.serde_json.specs.Written.{number_text, comma_if, compact_text, items_text, members_text}
-use Rattle.ty_intake.proofs.JsonTokens.{not_there, the_same, was_there, HasUtf8, AllUtf8, tokens_utf8}
+use Rattle.ty_intake.proofs.JsonTokens.{not_there, the_same, was_there, AllUtf8, tokens_utf8}
 
 -- From tokens to JSON
 

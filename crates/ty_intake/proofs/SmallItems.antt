@@ -54,11 +54,11 @@ said_utf8 line s e =
     either_way (is_blank_line line) (Some blank) _ (Some s)
     (λ _ x. subst SaidUtf8 (the_same blank s x) tt)
     (λ _ x. either_way (is_utf8 line) (option_and_then said_in (read line)) None (Some s)
-        (λ u y.
-            let r = was_there (read line) said_in s y in
-            let all : DataUtf8 r.0 = read_utf8 line r.0 (IsUtf8-from_is_utf8 line u) r.1 in
-            members_say (get (codes "key") r.0) (get (codes "status") r.0) r.0 s (λ d z. get_utf8 (codes "key") r.0 d all z) all r.2)
-        (λ _ y. not_there s y) x)
+    (λ u y.
+    let r = was_there (read line) said_in s y in
+    let all : DataUtf8 r.0 = read_utf8 line r.0 (IsUtf8-from_is_utf8 line u) r.1 in
+    members_say (get (codes "key") r.0) (get (codes "status") r.0) r.0 s (λ d z. get_utf8 (codes "key") r.0 d all z) all r.2)
+    (λ _ y. not_there s y) x)
     e
 
 -- The items

@@ -1,6 +1,6 @@
 -- The item of an update is within the limits, and UTF-8 where its key and its value's text are.
 use Rattle.std.proofs.Common.{◌≡◌, ◌≤◌, ℕ, Bool, true, false, List, [], ◌∷◌, length, refl, ap, subst, le-leb}
-use Rattle.std.specs.Prelude.{Option, None, Some, Result, Ok, Err, option_map, option_and_then, is_none, unwrap_or, if◌then◌else◌}
+use Rattle.std.specs.Prelude.{Option, None, Some, Result, Ok, Err, option_map, is_none, unwrap_or, if◌then◌else◌}
 use Rattle.std.specs.Result.{result_ok}
 use Rattle.std.specs.Str.{IsUtf8}
 use Rattle.std.proofs.lemmas.Str.{is_utf8-from_IsUtf8}
@@ -16,7 +16,6 @@ use Rattle.ty_keys.specs.declared.key.Key.{Key}
 use Rattle.ty_keys.specs.declared.key.KeyFault.{KeyFault}
 use Rattle.ty_keys.specs.Forms.{read_key}
 use Rattle.ty_rules.specs.declared.rule.Rule.TheVariants as R
-use Rattle.ty_rules.specs.Tests.{unless_null}
 use Rattle.ty_rules.specs.Checks.{or_later, in_order}
 use Rattle.ty_values.specs.Keys.{whole_numbers, compact_fits, of_key, broken, valid}
 use Rattle.ty_values.specs.Items.{update, value_given, key_named, item_under, item_of}
