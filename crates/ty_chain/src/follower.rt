@@ -35,8 +35,12 @@ pub struct Follower<L: Named> {
 impl<L: Named> Model for Follower<L> {
     ghost use Rattle.std.specs.Prelude.{◌≡◌};
     ghost use Rattle.ty_chain.specs.Shown.{Shown};
+    ghost use Rattle.std.specs.Coded.{codes};
+    ghost use Rattle.ty_map.specs.steps.Code.{shape_code};
 
     ghost Value = { Shown };
+
+    ghost coded = { Prim.hlevel (codes, shape_code) };
 
     ghost view = { λ f. f.place };
 

@@ -26,8 +26,12 @@ impl<L: Named> Model for Place<L> {
     ghost use Rattle.std.specs.Prelude.{◌≡◌};
     ghost use Rattle.std.specs.Arc.{arc_value};
     ghost use Rattle.ty_chain.specs.Shown.{Shown, shown_at, Within};
+    ghost use Rattle.std.specs.Coded.{codes};
+    ghost use Rattle.ty_map.specs.steps.Code.{shape_code};
 
     ghost Value = { Shown };
+
+    ghost coded = { Prim.hlevel (codes, shape_code) };
 
     ghost view = { λ p. shown_at (arc_value p.parcel).crumb p.front };
 

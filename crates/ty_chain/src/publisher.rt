@@ -46,8 +46,12 @@ impl<L: Named> Model for Publisher<L> {
     ghost use Rattle.std.specs.Arc.{arc_value};
     ghost use Rattle.ty_chain.specs.Publishing.{Issued, issued};
     ghost use Rattle.ty_chain.specs.steps.Issued.{IsIssued};
+    ghost use Rattle.std.specs.Coded.{codes};
+    ghost use Rattle.ty_map.specs.steps.Code.{shape_code};
 
     ghost Value = { Issued };
+
+    ghost coded = { Prim.hlevel (codes, shape_code) };
 
     ghost view = { λ p. issued (arc_value p.parcel).crumb p.pen p.cut };
 
