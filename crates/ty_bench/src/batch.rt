@@ -7,7 +7,10 @@ ghost use Rattle.ty_base.specs.Limits.{key_fits, value_fits, items_fit};
 ghost use Rattle.ty_base.specs.Batches.{IsBatch};
 
 use std::alloc::Global;
+use std::sync::Wait;
+use ty_account::Named;
 use ty_base::{BATCH_UPDATES, INPUT_BYTES, Item, KEY_BYTES, NoMemory, Text, VALUE_BYTES};
+use ty_chain::Publisher;
 use ty_crumb::{Crumb, Made, next_crumb};
 
 const KEYS: u64 = 5_000;
@@ -72,14 +75,19 @@ fn is_batch(items: &[Item]) -> bool
     all_update(&items[..front]) && all_fit(items)
 }
 
-// The breadcrumb that so many puts make, a millisecond after the last one, where they are a batch
-// and the last number isn't reached.
-pub(crate) fn next(alloc: Global, last: &Crumb, puts: u64) -> Result<Option<Crumb>, NoMemory> {
-    let first = last.number.wrapping_mul(puts);
+// So many puts, from this number on.
+fn puts_from(alloc: Global, first: u64, puts: u64) -> Result<Vec<Item>, NoMemory> {
     let mut items = Vec::new(alloc);
     for i in 0..puts {
         items.push(put(alloc, first.wrapping_add(i))?)?;
     }
+    Ok(items)
+}
+
+// The breadcrumb that so many puts make, a millisecond after the last one, where they are a batch
+// and the last number isn't reached.
+pub(crate) fn next(alloc: Global, last: &Crumb, puts: u64) -> Result<Option<Crumb>, NoMemory> {
+    let items = puts_from(alloc, last.number.wrapping_mul(puts), puts)?;
     if !is_batch(&items) || last.number >= INPUT_BYTES as u64 {
         return Ok(None);
     }
@@ -88,4 +96,23 @@ pub(crate) fn next(alloc: Global, last: &Crumb, puts: u64) -> Result<Option<Crum
         Made::Crumb(crumb) => Ok(Some(crumb)),
         Made::Unchanged => Ok(None),
     }
+}
+
+// Publishes so many puts, a millisecond after the last breadcrumb, where they are a batch and the
+// chain has room for so many items. It tells whether they are.
+pub(crate) fn publish<L: Named, R: Wait>(
+    rt: &R,
+    alloc: Global,
+    publisher: &mut Publisher<L>,
+    puts: u64,
+) -> Result<bool, NoMemory> {
+    let first = publisher.crumb().number.wrapping_mul(puts);
+    let at = publisher.crumb().at.saturating_add(1);
+    let items = puts_from(alloc, first, puts)?;
+    let room = (INPUT_BYTES as u64).saturating_sub(publisher.cut());
+    if !is_batch(&items) || items.len() as u64 >= room {
+        return Ok(false);
+    }
+    publisher.publish(rt, alloc, &items, at)?;
+    Ok(true)
 }

@@ -2,22 +2,28 @@
 #![tactic(auto)]
 
 mod batch;
+mod chain;
 mod frames;
 mod puts;
 mod sessions;
 
+use chain::publish_and_follow;
 use frames::{read_all, written};
 use puts::{into_btree, into_pairs};
 use sessions::{Encoding, Offering, deliver};
 use std::alloc::Global;
+use std::marker::Brand;
 use std::process::ExitCode;
 use std::rt::{Clock, Env};
+use std::sync::Wait;
+use std::thread::Threads;
 use std::time::{Duration, Instant};
 use std::{env, io};
-use ty_base::read_u64;
+use ty_base::{NoMemory, read_u64};
+use ty_chain::Opening;
 
 const USAGE: &str =
-    "usage: ty_bench puts COUNT KEYS | frames COUNT | sessions COUNT CRUMBS encoded|each [held]";
+    "usage: ty_bench puts COUNT KEYS | frames COUNT | sessions COUNT CRUMBS encoded|each [held] | chain CRUMBS FOLLOWERS";
 
 fn main(rt: HostRuntime) -> io::Result<ExitCode> {
     let mut args = env::args(&rt)?.skip(1);
@@ -29,6 +35,7 @@ fn main(rt: HostRuntime) -> io::Result<ExitCode> {
     match (mode.as_ref().map(|m| m.as_str()), count, keys, encoding) {
         (Some("puts"), Some(count), Some(keys), None) => measure_puts(&rt, count, keys)?,
         (Some("frames"), Some(count), None, None) => measure_frames(&rt, count)?,
+        (Some("chain"), Some(crumbs), Some(followers), None) => run_chain(&rt, crumbs, followers)?,
         (Some("sessions"), Some(count), Some(crumbs), Some(encoding)) => {
             run_sessions(&rt, count, crumbs, encoding, offering)?
         }
@@ -112,4 +119,27 @@ fn run_sessions<R: Print + AllocGlobal>(
         "sessions {count}: {} breadcrumbs, {} deliveries, {} bytes",
         done.crumbs, done.deliveries, done.bytes
     )
+}
+
+// So many breadcrumbs, published while so many followers step along them in threads. It tells no
+// time.
+fn run_chain<R: Print + AllocGlobal + Threads + Wait + Sync>(
+    rt: &R,
+    crumbs: u64,
+    followers: u64,
+) -> io::Result<()> {
+    let Ok(steps) = chain_steps(rt, rt.alloc(), crumbs, followers) else {
+        return rt.println("out of memory");
+    };
+    println!(rt; "chain: {crumbs} breadcrumbs, {followers} followers, {steps} steps")
+}
+
+fn chain_steps<R: Threads + Wait + Sync>(
+    rt: &R,
+    alloc: Global,
+    crumbs: u64,
+    followers: u64,
+) -> Result<u64, NoMemory> {
+    let opening = Opening::new(alloc, 0)?;
+    publish_and_follow::<Brand, R>(rt, alloc, opening, crumbs, followers as usize)
 }
