@@ -1,5 +1,0 @@
--- Words of private clauses.
-pub mod Chains
-pub mod Links
-pub mod Runs
-pub mod Slots
