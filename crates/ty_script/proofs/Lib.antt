@@ -1,0 +1,3 @@
+mod FeedLines
+mod Said
+mod Words
