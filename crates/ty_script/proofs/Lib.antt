@@ -1,3 +1,4 @@
 mod FeedLines
+mod Fitting
 mod Said
 mod Words
