@@ -1,0 +1,10 @@
+pub mod Answers
+pub mod Clients
+pub mod Fits
+pub mod Held
+pub mod Links
+pub mod Marked
+pub mod Run
+pub mod Report
+pub mod Text
+pub mod steps
