@@ -79,7 +79,7 @@ came_within es k n x =
     (all_back P (filter_map told_number (delivered es k)) (numbers_came es k n ++ filter_map told_number rest.0)
     (subst (AllByRecursion P) numbers (numbers_within es k.marks (marks-more k.marks k.offered (length es) x.marks x.offered))))
 
-last_within : (es : List Entry) (held : Option ℕ) (ns : List ℕ) → IfSome held (λ n. n ≤ length es) → AllByRecursion (λ m. m ≤ length es) ns → IfSome (last_number held ns) (λ n. n ≤ length es)
+pub last_within : (es : List Entry) (held : Option ℕ) (ns : List ℕ) → IfSome held (λ n. n ≤ length es) → AllByRecursion (λ m. m ≤ length es) ns → IfSome (last_number held ns) (λ n. n ≤ length es)
 last_within es held [] h a = h
 last_within es held (n ∷ ns) h a = last_within es (Some n) ns a.0 a.1
 

@@ -3,7 +3,7 @@ use Rattle.std.proofs.Common.{◌≡◌, ℕ, List, [], ◌∷◌, ◌++◌, ref
 use Rattle.std.specs.Prelude.{None, Some}
 use Rattle.std.proofs.lemmas.Grind.{flat_map-append}
 use Rattle.ty_intake.specs.declared.intake.IntakeFault.{IntakeFault}
-use Rattle.ty_core.specs.declared.event.Event.{Event}
+use Rattle.ty_script.specs.declared.event.Event.{Event}
 use Rattle.ty_core.specs.declared.told.Told.{Told}
 use Rattle.ty_core.specs.Run.{State, Happening, on, end, Ran, going, over, went, goes, run_from, run, no_state, after, finished, fault_by}
 use Rattle.ty_core.specs.Report.{report_from, report, told_if_going, told_of}

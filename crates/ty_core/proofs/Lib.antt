@@ -19,3 +19,7 @@ pub mod Happenings
 pub mod Reached
 pub mod Answered
 pub mod Lines
+pub mod LongerBooks
+pub mod LaterStates
+pub mod ToldWorlds
+pub mod ReceivedWorlds

@@ -24,9 +24,9 @@ use Rattle.ty_session.specs.Held.{SessionHeld}
 use Rattle.ty_core.specs.declared.chain.Chain.{Chain}
 use Rattle.ty_core.specs.declared.client.Client.{Client}
 use Rattle.ty_core.specs.declared.client.Connection.{Connection}
-use Rattle.ty_core.specs.declared.event.Event.{Event}
-use Rattle.ty_core.specs.declared.event.Event.TheVariants.{Line, Join, Step, Get, Hear, Cut, Tick}
-use Rattle.ty_core.specs.declared.event.TheConstants.{CLIENTS}
+use Rattle.ty_script.specs.declared.event.Event.{Event}
+use Rattle.ty_script.specs.declared.event.Event.TheVariants.{Line, Join, Step, Get, Hear, Cut, Tick}
+use Rattle.ty_script.specs.declared.event.TheConstants.{CLIENTS}
 use Rattle.ty_core.specs.declared.run.Run.{Run}
 use Rattle.ty_core.specs.declared.slot.Slot.{Slot}
 use Rattle.ty_core.specs.declared.told.Told.{Told}
@@ -35,7 +35,7 @@ use Rattle.ty_core.specs.Clients.{Trail, newest, no_client, down, numbers_came, 
 use Rattle.ty_core.specs.Run.{State, no_state, book_of, trail, client, link, with_client, timed, lined, finished, tick_client, ticked, after, fault_by, hear_fault, get_fault}
 use Rattle.ty_core.specs.Report.{shown, news, told_join, told_hear, told_step, told_ends, told_get, told_cut, told_tick, told_ticks, told_by, told_end}
 use Rattle.ty_core.specs.Held.{ChainStands, LinkStands, SlotStands, RunStands}
-use Rattle.ty_core.specs.Fits.{IsClient}
+use Rattle.ty_script.specs.Fits.{IsClient}
 use Rattle.ty_core.specs.steps.Chains.{ChainMoved}
 use Rattle.ty_core.specs.steps.Slots.{AreTrail, LinkNumbers, SlotMoves, SlotGets}
 use Rattle.ty_core.specs.steps.Runs.{SlotsStand, AreTicking, RunMoves}

@@ -21,7 +21,7 @@ use Rattle.ty_core.specs.declared.client.Client.{Client}
 use Rattle.ty_core.specs.declared.client.Connection.{Connection}
 use Rattle.ty_core.specs.declared.slot.Slot.{Slot}
 use Rattle.ty_core.specs.declared.run.Run.{Run}
-use Rattle.ty_core.specs.declared.event.TheConstants.{CLIENTS}
+use Rattle.ty_script.specs.declared.event.TheConstants.{CLIENTS}
 
 -- The chain
 

@@ -1,7 +1,7 @@
 pub mod Answers
 pub mod Clients
-pub mod Fits
 pub mod Held
+pub mod Interleavings
 pub mod Links
 pub mod Marked
 pub mod Run

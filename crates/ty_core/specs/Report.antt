@@ -9,8 +9,8 @@ use Rattle.ty_core.specs.Clients.{Trail, newest, time_of, is_joining, is_behind,
 use Rattle.ty_core.specs.Run.{State, items, book_of, trail, client, link, lined, finished, Happening, on, end, Ran, going, over, goes, no_state}
 use Rattle.ty_core.specs.declared.client.Client.{Client}
 use Rattle.ty_core.specs.declared.client.Connection.{Connection}
-use Rattle.ty_core.specs.declared.event.Event.{Event}
-use Rattle.ty_core.specs.declared.event.Event.TheVariants.{Line, Join, Step, Get, Hear, Cut, Tick}
+use Rattle.ty_script.specs.declared.event.Event.{Event}
+use Rattle.ty_script.specs.declared.event.Event.TheVariants.{Line, Join, Step, Get, Hear, Cut, Tick}
 use Rattle.ty_core.specs.declared.told.Told.{Told}
 use Rattle.ty_core.specs.declared.told.Told.TheVariants.{Published, Ended, Opened, Present, Heard, Joined, Stepped, Pending, Waiting, TooSlow, Rebuilt as AtEnd, Still, Lost, NoHello, NoPong, Absent}
 

@@ -13,9 +13,9 @@ use Rattle.ty_intake.specs.declared.intake.IntakeFault.TheVariants.{TooMuch}
 use Rattle.ty_core.specs.Clients.{Trail, newest, no_client, sent, is_heard, join_link, hear_link, step_link, got_with, get_client, tick_link}
 use Rattle.ty_core.specs.declared.client.Client.{Client}
 use Rattle.ty_core.specs.declared.client.Connection.{Connection}
-use Rattle.ty_core.specs.declared.event.Event.{Event}
-use Rattle.ty_core.specs.declared.event.Event.TheVariants.{Line, Join, Step, Get, Hear, Cut, Tick}
-use Rattle.ty_core.specs.declared.event.TheConstants.{CLIENTS}
+use Rattle.ty_script.specs.declared.event.Event.{Event}
+use Rattle.ty_script.specs.declared.event.Event.TheVariants.{Line, Join, Step, Get, Hear, Cut, Tick}
+use Rattle.ty_script.specs.declared.event.TheConstants.{CLIENTS}
 
 -- the feed so far, the time of each breadcrumb from 0 on, the time now, and the clients, of which client c is at place c - 1
 pub record State : Type 0 where

@@ -9,11 +9,11 @@ ghost use Rattle.ty_core.specs.declared.client.Client.{Client};
 ghost use Rattle.ty_core.specs.Run.{State, no_state, finished, lined, fault_by, book_of, client, link, tick_client};
 ghost use Rattle.ty_core.specs.Report.{told_end, told_ticks, shown};
 ghost use Rattle.ty_core.specs.Held.{RunStands};
-ghost use Rattle.ty_core.specs.Fits.{IsEvent, IsClient};
+ghost use Rattle.ty_script.specs.Fits.{IsEvent, IsClient};
 ghost use Rattle.ty_core.specs.steps.Runs.{HasState, RunMoves, SlotsStand, AreTicking};
 
 use crate::chain::Chain;
-use crate::event::{CLIENTS, Event};
+use ty_script::{CLIENTS, Event};
 use crate::fault::WorldFault;
 use crate::run::Run;
 use crate::slot::{Slot, cut, get, hear, join, step, tick};

@@ -3,9 +3,9 @@
 
 mod chain;
 mod client;
-mod event;
 mod events;
 mod fault;
+mod laws;
 mod publisher;
 mod run;
 mod slot;
@@ -17,8 +17,9 @@ mod world;
 
 pub use chain::Chain;
 pub use client::{Client, Connection, Mark, Marks};
-pub use event::{CLIENTS, Event, TIME_LIMIT};
+pub use ty_script::{CLIENTS, Event, EventFault, TIME_LIMIT, read_event};
 pub use fault::WorldFault;
+pub use laws::clients_rebuild_the_worlds;
 pub use run::Run;
 pub use slot::Slot;
 pub use told::Told;

@@ -1,6 +1,6 @@
 // A publisher and its clients.
 ghost use Rattle.std.specs.Prelude.{◌≡◌, length};
-ghost use Rattle.ty_core.specs.declared.event.TheConstants.{CLIENTS};
+ghost use Rattle.ty_script.specs.declared.event.TheConstants.{CLIENTS};
 
 use crate::chain::Chain;
 use crate::slot::Slot;

@@ -6,11 +6,11 @@ ghost use Rattle.ty_core.specs.Run.{Happening, on, end, State, going, over, run,
 ghost use Rattle.ty_core.specs.Report.{report, shown};
 ghost use Rattle.ty_core.specs.Text.{report_text as text_of};
 ghost use Rattle.ty_core.specs.Held.{RunStands, WorldStands};
-ghost use Rattle.ty_core.specs.Fits.{IsEvent, IsClient};
+ghost use Rattle.ty_script.specs.Fits.{IsEvent, IsClient};
 ghost use Rattle.ty_core.specs.Answers.{IfFeedFault, IsGoing, OnFault, IsShort};
 ghost use Rattle.ty_core.specs.steps.Runs.{HasState, RunTells, RunEnds};
 
-use crate::event::Event;
+use ty_script::Event;
 use crate::fault::WorldFault;
 use crate::run::Run;
 use crate::text::report_text;

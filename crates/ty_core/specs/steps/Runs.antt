@@ -2,7 +2,7 @@
 use Rattle.std.specs.Prelude.{◌≡◌, ℕ, ◌<◌, ◌≤◌, List, take, None, Some, slice_get}
 use Rattle.ty_base.specs.declared.entry.Entry.{Entry}
 use Rattle.ty_core.specs.declared.client.Client.{Client}
-use Rattle.ty_core.specs.declared.event.Event.{Event}
+use Rattle.ty_script.specs.declared.event.Event.{Event}
 use Rattle.ty_core.specs.declared.run.Run.{Run}
 use Rattle.ty_core.specs.declared.slot.Slot.{Slot}
 use Rattle.ty_core.specs.declared.told.Told.{Told}

@@ -1,0 +1,50 @@
+-- What is so of every interleaving.
+use Rattle.std.specs.Prelude.{◌≡◌, ℕ, ◌≤◌, List, [], ◌∷◌, Option, None, Some, ⊤}
+use Rattle.std.specs.Option.{IfSome}
+use Rattle.ty_wire.specs.Talk.{Rise}
+use Rattle.ty_client.specs.Rebuilt.{Rebuilt}
+use Rattle.ty_core.specs.Clients.{newest}
+use Rattle.ty_core.specs.Run.{State, trail, Happening, on, end, Ran, going, over, goes, no_state}
+use Rattle.ty_core.specs.Report.{shown}
+use Rattle.ty_script.specs.Fits.{IsEvent}
+use Rattle.ty_core.specs.declared.told.Told.{Told}
+use Rattle.ty_core.specs.declared.told.Told.TheVariants.{Published, Rebuilt as AtEnd, Still}
+
+-- Scripts
+
+-- behind a fault nothing happens any more
+abbrev pub CanHappen : Ran → Happening → Type 0
+CanHappen (going s) (on e) = IsEvent s.now e
+CanHappen (going s) end = ⊤
+CanHappen (over f) h = ⊤
+
+unfoldable pub AllCanHappen : Ran → List Happening → Type 0
+AllCanHappen r [] = ⊤
+AllCanHappen r (h ∷ hs) = CanHappen r h × AllCanHappen (goes r h) hs
+
+-- each can happen at its time
+abbrev pub IsScript : List Happening → Type 0
+IsScript hs = AllCanHappen (going no_state) hs
+
+-- Maps
+
+-- the map is the world of its number, a breadcrumb that is there
+abbrev pub IsWorldOf : State → Rebuilt → Type 0
+IsWorldOf s a = (a ≡ shown s a.number) × (a.number ≤ newest (trail s))
+
+-- the map that is told, if one is
+abbrev pub map_of : Told → Option Rebuilt
+map_of (Published a) = Some a
+map_of (AtEnd c a) = Some a
+map_of (Still c held) = held
+map_of _ = None
+
+abbrev pub ShowsWorlds : State → Told → Type 0
+ShowsWorlds s t = IfSome (map_of t) (IsWorldOf s)
+
+-- Numbers
+
+-- each is above the one before, and none above the last
+abbrev pub AreRising : List ℕ → ℕ → Type 0
+AreRising [] most = ⊤
+AreRising (n ∷ ns) most = Rise n ns most
