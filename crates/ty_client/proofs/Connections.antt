@@ -137,23 +137,29 @@ brought old new before bytes piece ms at_ends fault s e hear f k n =
 
 -- connections
 
+pub hears_nothing : (u : FramesHeld) → FramesStand u [] [] → u.fault ≡ None → Hears [] [] None
+hears_nothing u k w = record {
+  front = [];
+  rest = [];
+  whole = refl;
+  stops = λ _. refl;
+  all = [];
+  wire = None;
+  brings = subst (λ (x : Option WireFault). Brings [] [] x) w (brings u [] [] k);
+  good = sym (ap (λ (x : Judged). x.good) (judged_none []));
+  first = sym (ap (λ (x : Judged). option_or x.fault None) (judged_none []));
+}
+
+pub good_nothing : (u : FramesHeld) (s : Staged) → FramesStand u [] [] → u.fault ≡ None → s ≡ record { frame = 1; status = None; fresh = false; number = None; pairs = [] } → IsGoodSoFar u s [] []
+good_nothing u s k w e = record { frames_stand = k; no_wire_fault = w; good = judged_none []; stage_is = e }
+
 pub begins : (r : RebuildHeld) (connections : List (List ℕ)) → r.spent ≡ false → r.fault ≡ None → r.unread.fault ≡ None → FramesStand r.unread [] [] → r.stage ≡ record { frame = 1; status = None; fresh = false; number = None; pairs = [] } → Holds connections r.held → RebuildStands r connections [] []
 unfolding ats_after last_held
 begins r connections n f w k s h =
     record {
       unspent = n;
-      hears = record {
-        front = [];
-        rest = [];
-        whole = refl;
-        stops = λ _. refl;
-        all = [];
-        wire = None;
-        brings = subst (λ (x : Option WireFault). Brings [] [] x) w (brings r.unread [] [] k);
-        good = sym (ap (λ (x : Judged). x.good) (judged_none []));
-        first = f ∙ sym (ap (λ (x : Judged). option_or x.fault None) (judged_none []));
-      };
-      goes_on = subst (λ (x : Option StreamFault). IsGoodUnless x r.unread r.stage [] []) (sym f) (record { frames_stand = k; no_wire_fault = w; good = judged_none []; stage_is = s });
+      hears = subst (λ (x : Option StreamFault). Hears [] [] x) (sym f) (hears_nothing r.unread k w);
+      goes_on = subst (λ (x : Option StreamFault). IsGoodUnless x r.unread r.stage [] []) (sym f) (good_nothing r.unread r.stage k w s);
       held_before = r.held;
       holds = h;
       held_is = refl;

@@ -1,120 +1,150 @@
 -- A source that is followed, piece by piece.
-use Rattle.std.proofs.Common.{◌≡◌, ℕ, zero, suc, drop, ◌+◌, ◌<◌, ◌≤◌, List, [], ◌∷◌, ◌++◌, Bool, length, take, refl, sym, ap, ◌∙◌, append-nil, subst, arith, length-append}
+use Rattle.std.proofs.Common.{◌≡◌, ℕ, zero, suc, false, drop, ◌+◌, ◌<◌, ◌≤◌, List, [], ◌∷◌, ◌++◌, Bool, length, take, refl, sym, ap, ◌∙◌, append-nil, subst, arith, length-append}
 use Rattle.std.proofs.lemmas.Grind.{flat_map-append}
 use Rattle.std.proofs.lemmas.List.{take-take}
-use Rattle.std.specs.Prelude.{Option, None, Some, Result, Ok, Err, OnOk, IfErr}
+use Rattle.std.specs.Prelude.{Option, None, Some, Result, Ok, Err, OnOk, IfErr, option_map}
+use Rattle.std.specs.Option.{option_or}
 use Rattle.std.specs.Io.KnownBytes.{Appends, Consumes, IsAtEnd}
 use Rattle.ty_base.specs.declared.limits.TheConstants.{INPUT_BYTES}
+use Rattle.ty_base.specs.Devices.{Output, Seen}
 use Rattle.ty_base.specs.Fronts.{AppendsFront}
 use Rattle.ty_base.proofs.Known.{Appends-then, Appends-same, AppendsFront-after, Consumes-then}
-use Rattle.ty_wire.specs.Stream.{FramesStandBy, FramesOpen, Reads}
+use Rattle.ty_wire.specs.Wire.{frames}
+use Rattle.ty_wire.specs.Held.{FramesHeld}
+use Rattle.ty_wire.specs.Stream.{FramesStand, FramesStandBy, FramesOpen, Reads}
 use Rattle.ty_wire.specs.declared.message.Msg.{Msg}
 use Rattle.ty_wire.specs.declared.fault.WireFault.{WireFault}
 use Rattle.ty_client.specs.declared.fault.StreamFault.{StreamFault}
+use Rattle.ty_client.specs.declared.fault.StreamFault.TheVariants.{Wire}
 use Rattle.ty_client.specs.declared.follower.FollowFault.{FollowFault}
 use Rattle.ty_client.specs.declared.follower.Stop.{Stop}
 use Rattle.ty_client.specs.declared.follower.Stop.TheVariants.{Fault, Sink, Memory}
-use Rattle.ty_client.specs.Rebuilt.{Rebuilt, ats, ats_after}
+use Rattle.ty_client.specs.declared.text.Unwritten.{Unwritten}
+use Rattle.ty_client.specs.Places.{judged_after}
+use Rattle.ty_client.specs.Rebuilt.{Rebuilt, ats, ats_after, pongs}
 use Rattle.ty_client.specs.Heard.{Hears}
-use Rattle.ty_client.specs.Rebuild.{RebuildHeld, IsGoodSoFar, IsGoodUnless, RebuildStands, Brought}
+use Rattle.ty_client.specs.Rebuild.{Staged, staged, IsGoodSoFar}
 use Rattle.ty_client.specs.Text.{at_text, rebuilt_text}
-use Rattle.ty_base.specs.Devices.{Seen}
 use Rattle.ty_client.specs.Followed.{Followed, FollowedPart, Ended, StoppedBy}
-use Rattle.ty_client.specs.steps.Pieces.{GivenAll, GivenPart, IsPieceHeard, EndsAt, fault_by}
+use Rattle.ty_client.specs.steps.Pieces.{IsJudgedAndTold, GivenAll, GivenPart, IsPieceHeard, EndsAt, fault_by}
+use Rattle.ty_client.specs.steps.Stage.{IsHeard}
+use Rattle.ty_client.proofs.Connections.{heard_on, hears_nothing, good_nothing}
 use Rattle.ty_client.proofs.Judging.{ats_more, ats_none}
 
 -- one piece
 
-pub given_all : (brief : Bool) (old new : RebuildHeld) (bytes piece : List ℕ) (ms : List Msg) (at_ends : List Rebuilt) (a b : Option (List ℕ)) → Brought old new [] bytes piece ms at_ends → Appends a b (rebuilt_text brief at_ends) → GivenAll brief new (bytes ++ piece) ms a b
-given_all brief old new bytes piece ms at_ends a b h k = record {
-  more = h.more;
-  stands = h.stands;
-  given = subst (λ (l : List Rebuilt). Appends a b (rebuilt_text brief l)) h.at_ends_are k;
-}
+-- what a piece's messages come to, whatever was told of them
+abbrev pub PieceHeard : FramesHeld → List ℕ → List ℕ → List Msg → List Msg → Option WireFault → Type 0
+PieceHeard v bytes piece ms msgs wire =
+    IsHeard v (staged (ms ++ (judged_after ms msgs).good)) bytes piece ms (ats_after ms (judged_after ms msgs).good) (option_or (judged_after ms msgs).fault (option_map Wire wire)) [] (frames (pongs (judged_after ms msgs).good))
 
-pub given_part : (brief : Bool) (old new : RebuildHeld) (bytes piece : List ℕ) (ms : List Msg) (at_ends : List Rebuilt) (a b : Option (List ℕ)) → Brought old new [] bytes piece ms at_ends → AppendsFront a b (rebuilt_text brief at_ends) → (part : GivenPart brief (bytes ++ piece) ms a b) × (part.unheard ≡ [])
-given_part brief old new bytes piece ms at_ends a b h k = (
+pub piece_heard : (u v : FramesHeld) (s : Staged) (bytes piece : List ℕ) (ms msgs : List Msg) (wire : Option WireFault) → IsGoodSoFar u s bytes ms → FramesStand v (bytes ++ piece) (ms ++ msgs) → wire ≡ v.fault
+    → PieceHeard v bytes piece ms msgs wire
+piece_heard u v s bytes piece ms msgs wire o k w =
+    let good = (judged_after ms msgs).good in
+    heard_on u v s (staged (ms ++ good)) bytes piece ms msgs (ats_after ms good) (judged_after ms msgs).fault wire [] (frames (pongs good)) o k w
+    (record { fault_is = refl; at_ends_are = refl; stage_is = refl; up_is = refl })
+
+-- the piece was told whole
+pub given_all : (brief : Bool) (v : FramesHeld) (stage : Staged) (fault : Option StreamFault) (bytes piece : List ℕ) (ms msgs : List Msg) (wire : Option WireFault) (old new : Output) → PieceHeard v bytes piece ms msgs wire
+    → IsJudgedAndTold brief (Ok fault) ms msgs stage old new → GivenAll brief (option_or fault (option_map Wire wire)) v stage (bytes ++ piece) ms old.held new.held
+given_all brief v stage fault bytes piece ms msgs wire old new h k =
+    let good = (judged_after ms msgs).good in
+    let F : Option StreamFault → Type 0 = λ f. GivenAll brief (option_or f (option_map Wire wire)) v stage (bytes ++ piece) ms old.held new.held in
+    let S : Staged → Type 0 = λ s. GivenAll brief (option_or (judged_after ms msgs).fault (option_map Wire wire)) v s (bytes ++ piece) ms old.held new.held in
+    subst F (sym k.fault_is) (subst S (sym k.stage_is) (record {
+      more = h.more;
+      hears = h.hears;
+      goes_on = h.goes_on;
+      given = subst (λ (l : List Rebuilt). Appends old.held new.held (rebuilt_text brief l)) h.at_ends_are k.told.ok;
+    }))
+
+-- a front of its text was told
+pub given_part : (brief : Bool) (e : Unwritten) (v : FramesHeld) (stage : Staged) (bytes piece : List ℕ) (ms msgs : List Msg) (wire : Option WireFault) (old new : Output) → PieceHeard v bytes piece ms msgs wire
+    → IsJudgedAndTold brief (Err e) ms msgs stage old new → (part : GivenPart brief (bytes ++ piece) ms old.held new.held) × (part.unheard ≡ [])
+given_part brief e v stage bytes piece ms msgs wire old new h k = (
   record {
     front = bytes ++ piece;
     unheard = [];
     whole = sym (append-nil (bytes ++ piece));
     more = h.more;
-    fault = new.fault;
-    hears = h.stands.hears;
-    given = subst (λ (l : List Rebuilt). AppendsFront a b (rebuilt_text brief l)) h.at_ends_are k;
+    fault = option_or (judged_after ms msgs).fault (option_map Wire wire);
+    hears = h.hears;
+    given = subst (λ (l : List Rebuilt). AppendsFront old.held new.held (rebuilt_text brief l)) h.at_ends_are k.told.err;
   },
   refl,
 )
 
-pub given_none : (brief : Bool) (r : RebuildHeld) (bytes piece : List ℕ) (ms : List Msg) (a : Option (List ℕ)) → RebuildStands r [] bytes ms → GivenPart brief (bytes ++ piece) ms a a
-given_none brief r bytes piece ms a s = record {
+-- nothing of it was heard
+pub given_none : (brief : Bool) (bytes piece : List ℕ) (ms : List Msg) (a : Option (List ℕ)) → Hears bytes ms None → GivenPart brief (bytes ++ piece) ms a a
+given_none brief bytes piece ms a h = record {
   front = bytes;
   unheard = piece;
   whole = refl;
   more = [];
-  fault = r.fault;
-  hears = subst (λ (l : List Msg). Hears bytes l r.fault) (sym (append-nil ms)) s.hears;
+  fault = None;
+  hears = subst (λ (l : List Msg). Hears bytes l None) (sym (append-nil ms)) h;
   given = ([], rebuilt_text brief (ats_after ms []), refl, Appends-same a);
 }
 
-pub goes_by : (result : Result (Unit {0}) Stop) (brief : Bool) (r : RebuildHeld) (fault : Option StreamFault) (bytes piece : List ℕ) (ms : List Msg) (a b : Option (List ℕ)) (n m : ℕ)
-    → OnOk result (fault ≡ None) → IfErr result (λ e. (f : StreamFault) × (fault ≡ Some f) × (e ≡ Fault f)) → fault ≡ r.fault → GivenAll brief r (bytes ++ piece) ms a b
-    → IsPieceHeard brief result r bytes piece ms a b n m
-goes_by (Ok u) brief r fault bytes piece ms a b n m ok err e g = (g, sym e ∙ ok)
-goes_by (Err x) brief r fault bytes piece ms a b n m ok (f, p, q) e g = subst (λ (y : Stop). IsPieceHeard brief (Err y) r bytes piece ms a b n m) (sym q) (g, sym e ∙ p)
+pub goes_by : (result : Result (Unit {0}) Stop) (brief : Bool) (v : FramesHeld) (stage : Staged) (fault : Option StreamFault) (bytes piece : List ℕ) (ms : List Msg) (old new : Output)
+    → OnOk result (fault ≡ None) → IfErr result (λ e. (f : StreamFault) × (fault ≡ Some f) × (e ≡ Fault f)) → GivenAll brief fault v stage (bytes ++ piece) ms old.held new.held
+    → IsPieceHeard brief result v stage bytes piece ms old new
+goes_by (Ok u) brief v stage fault bytes piece ms old new ok err g = subst (λ (f : Option StreamFault). GivenAll brief f v stage (bytes ++ piece) ms old.held new.held) ok g
+goes_by (Err x) brief v stage fault bytes piece ms old new ok (f, p, q) g =
+    subst (λ (y : Stop). IsPieceHeard brief (Err y) v stage bytes piece ms old new) (sym q) (subst (λ (o : Option StreamFault). GivenAll brief o v stage (bytes ++ piece) ms old.held new.held) p g)
 
 -- the source so far
 
-pub record Following (brief : Bool) (r : RebuildHeld) (left_before left held_before held : Option (List ℕ)) (taken : ℕ) : Type 0 where
+pub record Following (brief : Bool) (unread : FramesHeld) (stage : Staged) (left_before left held_before held : Option (List ℕ)) (taken : ℕ) : Type 0 where
   pub bytes : List ℕ
   pub ms : List Msg
   pub counted : taken ≡ length bytes
   pub consumed : Consumes left_before left bytes
-  pub stands : RebuildStands r [] bytes ms
-  pub open_is : r.fault ≡ None
+  pub hears : Hears bytes ms None
+  pub good : IsGoodSoFar unread stage bytes ms
   pub written : Appends held_before held (rebuilt_text brief (ats ms))
 
-pub following_begins : (brief : Bool) (r : RebuildHeld) (l h : Option (List ℕ)) → Consumes l l [] → RebuildStands r [] [] [] → r.fault ≡ None → Following brief r l l h h 0
-following_begins brief r l h c s f = record {
+pub following_begins : (brief : Bool) (u : FramesHeld) (s : Staged) (l h : Option (List ℕ)) → Consumes l l [] → FramesStand u [] [] → u.fault ≡ None
+    → s ≡ record { frame = 1; status = None; fresh = false; number = None; pairs = [] } → Following brief u s l l h h 0
+following_begins brief u s l h c k f e = record {
   bytes = [];
   ms = [];
   counted = refl;
   consumed = c;
-  stands = s;
-  open_is = f;
+  hears = hears_nothing u k f;
+  good = good_nothing u s k f e;
   written = subst (λ (x : List Rebuilt). Appends h h (rebuilt_text brief x)) (sym (ats_none [])) (Appends-same h);
 }
 
 text_more : (brief : Bool) (ms more : List Msg) → rebuilt_text brief (ats (ms ++ more)) ≡ rebuilt_text brief (ats ms) ++ rebuilt_text brief (ats_after ms more)
 text_more brief ms more = ap (rebuilt_text brief) (ats_more [] ms more) ∙ flat_map-append (at_text brief) (ats ms) (ats_after ms more)
 
-pub following_more : (brief : Bool) (r s : RebuildHeld) (l l' l'' h h' h'' : Option (List ℕ)) (taken count : ℕ) (piece : List ℕ) (f : Following brief r l l' h h' taken)
-    → Consumes l' l'' piece → count ≡ length piece → GivenAll brief s (f.bytes ++ piece) f.ms h' h'' → s.fault ≡ None
-    → Following brief s l l'' h h'' (taken + count)
-following_more brief r s l l' l'' h h' h'' taken count piece f c n g o = record {
+pub following_more : (brief : Bool) (u v : FramesHeld) (s t : Staged) (l l' l'' h h' h'' : Option (List ℕ)) (taken count : ℕ) (piece : List ℕ) (f : Following brief u s l l' h h' taken)
+    → Consumes l' l'' piece → count ≡ length piece → GivenAll brief None v t (f.bytes ++ piece) f.ms h' h''
+    → Following brief v t l l'' h h'' (taken + count)
+following_more brief u v s t l l' l'' h h' h'' taken count piece f c n g = record {
   bytes = f.bytes ++ piece;
   ms = f.ms ++ g.more;
   counted = omega (arith, f.counted, n, length-append f.bytes piece);
   consumed = Consumes-then l l' l'' f.bytes piece f.consumed c;
-  stands = g.stands;
-  open_is = o;
+  hears = g.hears;
+  good = g.goes_on;
   written = subst (λ (x : List ℕ). Appends h h'' x) (sym (text_more brief f.ms g.more)) (Appends-then h h' h'' (rebuilt_text brief (ats f.ms)) (rebuilt_text brief (ats_after f.ms g.more)) f.written g.given);
 }
 
-open_of : (r : RebuildHeld) (bytes : List ℕ) (ms : List Msg) → RebuildStands r [] bytes ms → r.fault ≡ None → FramesOpen r.unread bytes ms
-open_of r bytes ms s e =
-    let o : IsGoodSoFar r.unread r.stage bytes ms = subst (λ (x : Option StreamFault). IsGoodUnless x r.unread r.stage bytes ms) e s.goes_on in
-    subst (λ (x : Option WireFault). FramesStandBy x r.unread bytes ms) o.no_wire_fault o.frames_stand.1
+open_of : (u : FramesHeld) (s : Staged) (bytes : List ℕ) (ms : List Msg) → IsGoodSoFar u s bytes ms → FramesOpen u bytes ms
+open_of u s bytes ms o = subst (λ (x : Option WireFault). FramesStandBy x u bytes ms) o.no_wire_fault o.frames_stand.1
 
-pub following_short : (brief : Bool) (r : RebuildHeld) (l l' h h' : Option (List ℕ)) (taken : ℕ) → Following brief r l l' h h' taken → taken < INPUT_BYTES
-following_short brief r l l' h h' taken f = omega (arith, f.counted, (open_of r f.bytes f.ms f.stands f.open_is).short)
+pub following_short : (brief : Bool) (u : FramesHeld) (s : Staged) (l l' h h' : Option (List ℕ)) (taken : ℕ) → Following brief u s l l' h h' taken → taken < INPUT_BYTES
+following_short brief u s l l' h h' taken f = omega (arith, f.counted, (open_of u s f.bytes f.ms f.good).short)
 
-pub followed_kept : (brief : Bool) (r : RebuildHeld) (old new : Seen) (l' h' : Option (List ℕ)) (taken : ℕ) (f : Following brief r old.source.left l' old.sink.held h' taken) → Consumes old.source.left new.source.left f.bytes → new.sink.held ≡ h' → Followed brief old new None
-followed_kept brief r old new l' h' taken f c e = record {
+pub followed_kept : (brief : Bool) (u : FramesHeld) (s : Staged) (old new : Seen) (l' h' : Option (List ℕ)) (taken : ℕ) (f : Following brief u s old.source.left l' old.sink.held h' taken) → Consumes old.source.left new.source.left f.bytes → new.sink.held ≡ h' → Followed brief old new None
+followed_kept brief u s old new l' h' taken f c e = record {
   bytes = f.bytes;
   ms = f.ms;
   taken = c;
-  hears = subst (λ (x : Option StreamFault). Hears f.bytes f.ms x) f.open_is f.stands.hears;
+  hears = f.hears;
   written = subst (λ (x : Option (List ℕ)). Appends old.sink.held x (rebuilt_text brief (ats f.ms))) (sym e) f.written;
 }
 
@@ -122,23 +152,23 @@ nothing_of : (rest : List ℕ) → length rest ≡ 0 → rest ≡ []
 nothing_of [] e = refl
 nothing_of (x ∷ rest) e = absurd (omega arith)
 
-ends : (result : Result (Unit {0}) FollowFault) (brief : Bool) (r : RebuildHeld) (old new : Seen) (rest : List ℕ) → Ended brief old new rest → EndsAt result (length rest) → OnOk result (Ended brief old new []) × IfErr result (λ e. StoppedBy brief old new e)
-ends (Ok u) brief r old new rest d n = (subst (λ (x : List ℕ). Ended brief old new x) (nothing_of rest n) d, tt)
-ends (Err fault) brief r old new rest d n = (tt, subst (λ (e : FollowFault). StoppedBy brief old new e) (sym n.1) (rest, d, n.0, refl))
+ends : (result : Result (Unit {0}) FollowFault) (brief : Bool) (old new : Seen) (rest : List ℕ) → Ended brief old new rest → EndsAt result (length rest) → OnOk result (Ended brief old new []) × IfErr result (λ e. StoppedBy brief old new e)
+ends (Ok u) brief old new rest d n = (subst (λ (x : List ℕ). Ended brief old new x) (nothing_of rest n) d, tt)
+ends (Err fault) brief old new rest d n = (tt, subst (λ (e : FollowFault). StoppedBy brief old new e) (sym n.1) (rest, d, n.0, refl))
 
 -- at the source's end, behind a rest
-pub ended_by : (result : Result (Unit {0}) FollowFault) (brief : Bool) (r : RebuildHeld) (old new : Seen) (l' h' : Option (List ℕ)) (taken : ℕ) (f : Following brief r old.source.left l' old.sink.held h' taken)
+pub ended_by : (result : Result (Unit {0}) FollowFault) (brief : Bool) (u : FramesHeld) (s : Staged) (old new : Seen) (l' h' : Option (List ℕ)) (taken : ℕ) (f : Following brief u s old.source.left l' old.sink.held h' taken)
     → Consumes old.source.left new.source.left f.bytes → new.sink.held ≡ h' → IsAtEnd new.source.left
-    → ((bytes rest : List ℕ) (ms : List Msg) → RebuildStands r [] bytes ms → Reads bytes ms rest → EndsAt result (length rest))
+    → ((bytes rest : List ℕ) (ms : List Msg) → FramesStand u bytes ms → Reads bytes ms rest → EndsAt result (length rest))
     → OnOk result (Ended brief old new []) × IfErr result (λ e. StoppedBy brief old new e)
 unfolding followed_kept
-ended_by result brief r old new l' h' taken f c e t k =
-    let o : FramesOpen r.unread f.bytes f.ms = open_of r f.bytes f.ms f.stands f.open_is in
-    ends result brief r old new r.unread.rest (record { followed = followed_kept brief r old new l' h' taken f c e; ended = t; reads = o.reads }) (k f.bytes r.unread.rest f.ms f.stands o.reads)
+ended_by result brief u s old new l' h' taken f c e t k =
+    let o : FramesOpen u f.bytes f.ms = open_of u s f.bytes f.ms f.good in
+    ends result brief old new u.rest (record { followed = followed_kept brief u s old new l' h' taken f c e; ended = t; reads = o.reads }) (k f.bytes u.rest f.ms f.good.frames_stand o.reads)
 
-part_after : (brief : Bool) (r : RebuildHeld) (old new : Seen) (l' h' : Option (List ℕ)) (taken : ℕ) (piece : List ℕ) (f : Following brief r old.source.left l' old.sink.held h' taken)
+part_after : (brief : Bool) (u : FramesHeld) (s : Staged) (old new : Seen) (l' h' : Option (List ℕ)) (taken : ℕ) (piece : List ℕ) (f : Following brief u s old.source.left l' old.sink.held h' taken)
     → Consumes l' new.source.left piece → (p : GivenPart brief (f.bytes ++ piece) f.ms h' new.sink.held) → (part : FollowedPart brief old new) × (part.unheard ≡ p.unheard)
-part_after brief r old new l' h' taken piece f c p = (
+part_after brief u s old new l' h' taken piece f c p = (
   record {
     bytes = p.front;
     unheard = p.unheard;
@@ -152,29 +182,29 @@ part_after brief r old new l' h' taken piece f c p = (
 )
 
 -- a piece behind which nothing follows
-pub stopped_by : (stop : Stop) (brief : Bool) (r s : RebuildHeld) (old new : Seen) (l' h' : Option (List ℕ)) (n' : ℕ) (taken : ℕ) (piece : List ℕ) (f : Following brief r old.source.left l' old.sink.held h' taken)
-    → Consumes l' new.source.left piece → old.sink.faults ≤ n' → IsPieceHeard brief (Err stop) s f.bytes piece f.ms h' new.sink.held n' new.sink.faults → StoppedBy brief old new (fault_by stop)
-stopped_by (Fault x) brief r s old new l' h' n' taken piece f c le h = record {
+pub stopped_by : (stop : Stop) (brief : Bool) (u v : FramesHeld) (s t : Staged) (old new : Seen) (l' : Option (List ℕ)) (now : Output) (taken : ℕ) (piece : List ℕ) (f : Following brief u s old.source.left l' old.sink.held now.held taken)
+    → Consumes l' new.source.left piece → old.sink.faults ≤ now.faults → IsPieceHeard brief (Err stop) v t f.bytes piece f.ms now new.sink → StoppedBy brief old new (fault_by stop)
+stopped_by (Fault x) brief u v s t old new l' now taken piece f c le h = record {
   bytes = f.bytes ++ piece;
-  ms = f.ms ++ h.0.more;
+  ms = f.ms ++ h.more;
   taken = Consumes-then old.source.left l' new.source.left f.bytes piece f.consumed c;
-  hears = subst (λ (o : Option StreamFault). Hears (f.bytes ++ piece) (f.ms ++ h.0.more) o) h.1 h.0.stands.hears;
-  written = subst (λ (x : List ℕ). Appends old.sink.held new.sink.held x) (sym (text_more brief f.ms h.0.more)) (Appends-then old.sink.held h' new.sink.held (rebuilt_text brief (ats f.ms)) (rebuilt_text brief (ats_after f.ms h.0.more)) f.written h.0.given);
+  hears = h.hears;
+  written = subst (λ (x : List ℕ). Appends old.sink.held new.sink.held x) (sym (text_more brief f.ms h.more)) (Appends-then old.sink.held now.held new.sink.held (rebuilt_text brief (ats f.ms)) (rebuilt_text brief (ats_after f.ms h.more)) f.written h.given);
 }
-stopped_by Sink brief r s old new l' h' n' taken piece f c le (part, rose) =
-    let p : (q : FollowedPart brief old new) × (q.unheard ≡ part.0.unheard) = part_after brief r old new l' h' taken piece f c part.0 in
+stopped_by Sink brief u v s t old new l' now taken piece f c le (part, rose) =
+    let p : (q : FollowedPart brief old new) × (q.unheard ≡ part.0.unheard) = part_after brief u s old new l' now.held taken piece f c part.0 in
     ((p.0, p.1 ∙ part.1), omega (arith, le, rose))
-stopped_by Memory brief r s old new l' h' n' taken piece f c le h = (part_after brief r old new l' h' taken piece f c h).0
+stopped_by Memory brief u v s t old new l' now taken piece f c le h = (part_after brief u s old new l' now.held taken piece f c h).0
 
 -- before anything was taken
-pub nothing_followed : (brief : Bool) (r : RebuildHeld) (old new : Seen) → Consumes old.source.left new.source.left [] → Appends old.sink.held new.sink.held [] → RebuildStands r [] [] [] → FollowedPart brief old new
-nothing_followed brief r old new c a s = record {
+pub nothing_followed : (brief : Bool) (u : FramesHeld) (old new : Seen) → Consumes old.source.left new.source.left [] → Appends old.sink.held new.sink.held [] → FramesStand u [] [] → u.fault ≡ None → FollowedPart brief old new
+nothing_followed brief u old new c a k f = record {
   bytes = [];
   unheard = [];
   ms = [];
-  fault = r.fault;
+  fault = None;
   taken = c;
-  hears = s.hears;
+  hears = hears_nothing u k f;
   written = ([], rebuilt_text brief (ats []), refl, a);
 }
 

@@ -5,5 +5,6 @@ pub mod Printed
 pub mod Followed
 pub mod Snapshots
 pub mod Talks
+pub mod Told
 pub mod Books
 pub mod Once

@@ -244,7 +244,10 @@ fn hear(
 }
 
 // The wire's fault comes behind all messages.
-fn first_fault(fault: Option<StreamFault>, wire: Option<WireFault>) -> Option<StreamFault>
+pub(crate) fn first_fault(
+    fault: Option<StreamFault>,
+    wire: Option<WireFault>,
+) -> Option<StreamFault>
     ensures { result ≡ option_or fault (option_map StreamFault.Wire wire) }
 {
     fault.or(wire.map(StreamFault::Wire))

@@ -15,6 +15,7 @@ use crate::at::{At, Ats};
 use crate::fault::StreamFault;
 use std::alloc::Global;
 use std::marker::Model;
+use std::mem;
 use ty_base::{Delta, NoMemory, Status};
 use ty_map::Pairs;
 use ty_wire::{Msg, short_messages_fit, write};
@@ -96,9 +97,11 @@ impl Stage {
         ensures up { OnOk result (up.new.items ≡ up.old.items ++ frames (pong_of msg.now)) }
     {
         let frame = frame_after(self.frame)?;
-        let pairs = pairs_after(alloc, &self.pairs, msg)?;
         self.rebuild(msg, ats)?;
         answer(alloc, msg, up)?;
+        // The map is taken out, so that it changes in place where nobody shares it.
+        let pairs = mem::replace(&mut self.pairs, Pairs::empty());
+        let pairs = pairs_after(alloc, pairs, msg)?;
         *self = Stage {
             frame,
             status: status_after(self.status, msg),
@@ -229,37 +232,37 @@ fn answer(alloc: Global, msg: &Msg, up: &mut Vec<u8>) -> Result<(), NoMemory>
     }
 }
 
-fn pairs_after(alloc: Global, pairs: &Pairs, msg: &Msg) -> Result<Pairs, NoMemory>
+fn pairs_after(alloc: Global, pairs: Pairs, msg: &Msg) -> Result<Pairs, NoMemory>
     requires wire { IsWire msg.now }
-    requires small { pairs_fit (pairs_of pairs.now) ≡ true }
-    ensures pairs { IfOk result (λ p. pairs_of p ≡ fold changed_by (pairs_of pairs.now) (deltas_in msg.now)) }
+    requires small { pairs_fit (pairs_of pairs) ≡ true }
+    ensures pairs { IfOk result (λ p. pairs_of p ≡ fold changed_by (pairs_of pairs) (deltas_in msg.now)) }
     ensures small { IfOk result (λ p. pairs_fit (pairs_of p) ≡ true) }
 {
     match msg {
         Msg::Kvs(deltas) => changed_all(alloc, pairs, deltas.as_slice()),
-        _ => pairs.copy(),
+        _ => Ok(pairs),
     }
 }
 
 // The kinds of the deltas aren't checked against the map.
-fn changed_all(alloc: Global, pairs: &Pairs, deltas: &[Delta]) -> Result<Pairs, NoMemory>
+fn changed_all(alloc: Global, pairs: Pairs, deltas: &[Delta]) -> Result<Pairs, NoMemory>
     requires limits { deltas_fit deltas.now ≡ true }
-    requires small { pairs_fit (pairs_of pairs.now) ≡ true }
-    ensures pairs { IfOk result (λ p. pairs_of p ≡ fold changed_by (pairs_of pairs.now) deltas.now) }
+    requires small { pairs_fit (pairs_of pairs) ≡ true }
+    ensures pairs { IfOk result (λ p. pairs_of p ≡ fold changed_by (pairs_of pairs) deltas.now) }
     ensures small { IfOk result (λ p. pairs_fit (pairs_of p) ≡ true) }
 {
-    let mut staged = pairs.copy()?;
+    let mut staged = pairs;
     for delta in deltas {
-        staged = changed(alloc, &staged, delta)?;
+        staged = changed(alloc, staged, delta)?;
     }
     Ok(staged)
 }
 
-fn changed(alloc: Global, pairs: &Pairs, delta: &Delta) -> Result<Pairs, NoMemory>
-    ensures { IfOk result (λ p. pairs_of p ≡ changed_by (pairs_of pairs.now) delta.now) }
+fn changed(alloc: Global, pairs: Pairs, delta: &Delta) -> Result<Pairs, NoMemory>
+    ensures { IfOk result (λ p. pairs_of p ≡ changed_by (pairs_of pairs) delta.now) }
 {
     match &delta.value {
-        Some(value) => pairs.put(alloc, &delta.key, value),
-        None => pairs.remove(alloc, &delta.key),
+        Some(value) => pairs.put_in(alloc, &delta.key, value),
+        None => pairs.remove_in(alloc, &delta.key),
     }
 }

@@ -1,5 +1,6 @@
 pub mod Book
 pub mod Crumbs
+pub mod Following
 pub mod Limits
 pub mod PendingChanges
 pub mod Spent

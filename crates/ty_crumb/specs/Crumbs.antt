@@ -10,6 +10,8 @@ use Rattle.ty_map.specs.Shape.{pairs}
 use Rattle.ty_crumb.specs.declared.crumb.Crumb.{Crumb}
 use Rattle.ty_crumb.specs.declared.successor.Made.{Made}
 use Rattle.ty_crumb.specs.declared.successor.Made.TheVariants.{Unchanged, Crumb as Next}
+use Rattle.ty_crumb.specs.declared.successor.Followed.{Followed}
+use Rattle.ty_crumb.specs.declared.successor.Followed.TheVariants.{Unchanged as GivenBack, Next as Following}
 
 abbrev pub world_of : Crumb → World
 world_of c = record { pairs = pairs c.pairs; status = c.status }
@@ -47,6 +49,16 @@ entries_of (Next c) = record { cut = c.cut; status = c.status; deltas = c.deltas
 abbrev pub IsMadeFor : List Entry → List Entry → Made → Type 0
 IsMadeFor old new Unchanged = new ≡ old
 IsMadeFor old new (Next c) = CrumbStands c new × (new ≢ old)
+
+-- What was made of a crumb that was given up
+
+abbrev pub made_of : Followed → Made
+made_of (GivenBack c) = Unchanged
+made_of (Following c) = Next c
+
+abbrev pub IfGivenBack : Followed → (Crumb → Type 0) → Type 0
+IfGivenBack (GivenBack c) P = P c
+IfGivenBack (Following c) P = Unit {0}
 
 -- how many nodes may be fresh behind so many updates of a map with so many pairs: for each update three for each level of the
 -- highest tree that all these pairs allow, and three more

@@ -1,3 +1,4 @@
+pub mod Alone
 pub mod Ascending
 pub mod FreshCounts
 pub mod FreshSums

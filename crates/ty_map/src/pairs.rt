@@ -92,6 +92,21 @@ impl Pairs {
         })
     }
 
+    /// The same of a map that is given up: its nodes that no other map shares change in place, and only the others are
+    /// copied. At want of memory the map is gone.
+    pub fn put_in(self, alloc: Global, key: &Text, value: &Text) -> Result<Pairs, NoMemory>
+        ensures pairs { IfOk result (λ p. pairs p ≡ insert (pairs self) key.now value.now) }
+        ensures few { IfOk result (λ p. fresh self p ≤ 3 * (height self + 1)) }
+        ensures low { 2 ^ height self ≤ (length (pairs self) + 1) ^ 2 }
+    {
+        let Pairs { tree } = self;
+        // Reads the height, so that its bound is known.
+        let _height = tree.height();
+        Ok(Pairs {
+            tree: tree.put_in(alloc, key, value)?,
+        })
+    }
+
     /// The map without this key; an equal map where it wasn't there. New are as few nodes as by `put`.
     pub fn remove(&self, alloc: Global, key: &Text) -> Result<Pairs, NoMemory>
         ensures pairs { IfOk result (λ p. pairs p ≡ remove (pairs self.now) key.now) }
@@ -101,6 +116,19 @@ impl Pairs {
         let _height = self.tree.height();
         Ok(Pairs {
             tree: self.tree.remove(alloc, key)?,
+        })
+    }
+
+    /// The same of a map that is given up, as by `put_in`.
+    pub fn remove_in(self, alloc: Global, key: &Text) -> Result<Pairs, NoMemory>
+        ensures pairs { IfOk result (λ p. pairs p ≡ remove (pairs self) key.now) }
+        ensures few { IfOk result (λ p. fresh self p ≤ 3 * (height self + 1)) }
+        ensures low { 2 ^ height self ≤ (length (pairs self) + 1) ^ 2 }
+    {
+        let Pairs { tree } = self;
+        let _height = tree.height();
+        Ok(Pairs {
+            tree: tree.remove_in(alloc, key)?,
         })
     }
 

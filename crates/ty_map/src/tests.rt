@@ -106,3 +106,28 @@ fn the_old_map_stays_and_few_nodes_are_new(rt: HostRuntime) -> Result<(), Fail> 
     assert!(rt; fresh > 0 && fresh <= 9);
     Ok(())
 }
+
+#[test]
+fn a_map_that_is_given_up_leaves_its_copies_alone(rt: HostRuntime) -> Result<(), Fail> {
+    let alloc = rt.alloc();
+    let (old, model) = filled(alloc, 100, 0)?;
+    let mut map = old.copy()?;
+    let mut other = BTreeMap::new(alloc);
+    for n in 0..100u32 {
+        other.insert(n, n)?;
+    }
+    for n in 50..150u32 {
+        map = map.put_in(alloc, &text(alloc, n)?, &text(alloc, n + 1)?)?;
+        other.insert(n, n + 1)?;
+    }
+    for n in 0..150u32 {
+        if n % 3 != 1 {
+            map = map.remove_in(alloc, &text(alloc, n)?)?;
+            other.remove(&n);
+        }
+    }
+    assert!(rt; alike(alloc, &map, &other)?);
+    assert!(rt; alike(alloc, &old, &model)?);
+    assert!(rt; map.height() <= 7);
+    Ok(())
+}

@@ -12,6 +12,7 @@ ghost use Rattle.ty_map.specs.Shape.{Shape, Empty, Fork, pairs, height, IsBalanc
 use std::alloc::Global;
 use std::cmp::Ordering;
 use std::marker::Model;
+use std::mem;
 use std::sync::Arc;
 use ty_base::{NoMemory, Text};
 
@@ -144,6 +145,64 @@ impl Tree {
         }
     }
 
+    /// The tree with a value put at a key. This tree is given up: its nodes that no other tree shares change in place, and
+    /// only the others are copied.
+    pub fn put_in(self, alloc: Global, key: &Text, value: &Text) -> Result<Tree, NoMemory>
+        ensures pairs { IfOk result (λ t. pairs t ≡ insert (pairs self) key.now value.now) }
+        ensures not_lower { IfOk result (λ t. height self ≤ height t) }
+        ensures at_most_one_higher { IfOk result (λ t. height t ≤ height self + 1) }
+        ensures fresh { IfOk result (λ t. fresh self t ≤ 3 * (height self + 1)) }
+    {
+        let Tree { root } = self;
+        match root {
+            Root::Leaf => Tree::empty().put(alloc, new_pair(alloc, key, value)?),
+            Root::Node(mut held) => {
+                let Some(node) = Arc::get_mut(&mut held) else {
+                    let shared = Tree {
+                        root: Root::Node(held),
+                    };
+                    return shared.put(alloc, new_pair(alloc, key, value)?);
+                };
+                match key.compare(&node.pair.key) {
+                    Ordering::Less => {
+                        let left = mem::replace(&mut node.left, Tree::empty());
+                        let (height, count) = (left.height(), left.len());
+                        let left = left.put_in(alloc, key, value)?;
+                        if left.height() != height {
+                            let right = mem::replace(&mut node.right, Tree::empty());
+                            return balance(alloc, left, Arc::try_clone(&node.pair)?, right);
+                        }
+                        node.count = recount(node.count, count, left.len())?;
+                        node.left = left;
+                        Ok(Tree {
+                            root: Root::Node(held),
+                        })
+                    }
+                    Ordering::Greater => {
+                        let right = mem::replace(&mut node.right, Tree::empty());
+                        let (height, count) = (right.height(), right.len());
+                        let right = right.put_in(alloc, key, value)?;
+                        if right.height() != height {
+                            let left = mem::replace(&mut node.left, Tree::empty());
+                            return balance(alloc, left, Arc::try_clone(&node.pair)?, right);
+                        }
+                        node.count = recount(node.count, count, right.len())?;
+                        node.right = right;
+                        Ok(Tree {
+                            root: Root::Node(held),
+                        })
+                    }
+                    Ordering::Equal => {
+                        write(alloc, &mut node.pair, key, value)?;
+                        Ok(Tree {
+                            root: Root::Node(held),
+                        })
+                    }
+                }
+            }
+        }
+    }
+
     /// The tree with no pair of a key.
     pub fn remove(&self, alloc: Global, key: &Text) -> Result<Tree, NoMemory>
         ensures pairs { IfOk result (λ t. pairs t ≡ remove (pairs self.now) key.now) }
@@ -167,6 +226,64 @@ impl Tree {
                     Some((first, right)) => balance(alloc, node.left.copy()?, first, right),
                 },
             },
+        }
+    }
+
+    /// The tree with no pair of a key. This tree is given up, as by `put_in`.
+    pub fn remove_in(self, alloc: Global, key: &Text) -> Result<Tree, NoMemory>
+        ensures pairs { IfOk result (λ t. pairs t ≡ remove (pairs self) key.now) }
+        ensures not_higher { IfOk result (λ t. height t ≤ height self) }
+        ensures at_most_one_lower { IfOk result (λ t. height self ≤ height t + 1) }
+        ensures fresh { IfOk result (λ t. fresh self t ≤ 3 * (height self + 1)) }
+    {
+        let Tree { root } = self;
+        match root {
+            Root::Leaf => Ok(Tree::empty()),
+            Root::Node(mut held) => {
+                let Some(node) = Arc::get_mut(&mut held) else {
+                    let shared = Tree {
+                        root: Root::Node(held),
+                    };
+                    return shared.remove(alloc, key);
+                };
+                match key.compare(&node.pair.key) {
+                    Ordering::Less => {
+                        let left = mem::replace(&mut node.left, Tree::empty());
+                        let (height, count) = (left.height(), left.len());
+                        let left = left.remove_in(alloc, key)?;
+                        if left.height() != height {
+                            let right = mem::replace(&mut node.right, Tree::empty());
+                            return balance(alloc, left, Arc::try_clone(&node.pair)?, right);
+                        }
+                        node.count = recount(node.count, count, left.len())?;
+                        node.left = left;
+                        Ok(Tree {
+                            root: Root::Node(held),
+                        })
+                    }
+                    Ordering::Greater => {
+                        let right = mem::replace(&mut node.right, Tree::empty());
+                        let (height, count) = (right.height(), right.len());
+                        let right = right.remove_in(alloc, key)?;
+                        if right.height() != height {
+                            let left = mem::replace(&mut node.left, Tree::empty());
+                            return balance(alloc, left, Arc::try_clone(&node.pair)?, right);
+                        }
+                        node.count = recount(node.count, count, right.len())?;
+                        node.right = right;
+                        Ok(Tree {
+                            root: Root::Node(held),
+                        })
+                    }
+                    Ordering::Equal => {
+                        let left = mem::replace(&mut node.left, Tree::empty());
+                        match node.right.split_first(alloc)? {
+                            None => Ok(left),
+                            Some((first, right)) => balance(alloc, left, first, right),
+                        }
+                    }
+                }
+            }
         }
     }
 
@@ -224,6 +341,42 @@ impl Tree {
             }
         }
     }
+}
+
+// A new pair of copies.
+fn new_pair(alloc: Global, key: &Text, value: &Text) -> Result<Arc<Pair>, NoMemory>
+    ensures { IfOk result (λ p. pair_of (arc_value p) ≡ (key.now, value.now)) }
+{
+    let pair = Pair {
+        key: key.copy(alloc)?,
+        value: value.copy(alloc)?,
+    };
+    Ok(Arc::new(alloc, pair)?)
+}
+
+// Writes the value of a key's pair, in place where no other tree has this pair.
+fn write(alloc: Global, pair: &mut Arc<Pair>, key: &Text, value: &Text) -> Result<(), NoMemory>
+    requires { (arc_value pair.old).key ≡ key.now }
+    ensures { IfOk result (λ _. pair_of (arc_value pair.new) ≡ (key.now, value.now)) }
+{
+    match Arc::get_mut(pair) {
+        Some(alone) => alone.value = value.copy(alloc)?,
+        None => *pair = new_pair(alloc, key, value)?,
+    }
+    Ok(())
+}
+
+// The count of a whole of which a part went from one count to another.
+fn recount(whole: usize, from: usize, to: usize) -> Result<usize, NoMemory>
+    requires { from ≤ whole }
+    ensures { IfOk result (λ n. n + from ≡ whole + to) }
+{
+    let rest = whole - from;
+    // No memory holds so many nodes.
+    if to > usize::MAX - rest {
+        return Err(NoMemory);
+    }
+    Ok(rest + to)
 }
 
 // Joins sides whose heights differ by at most two.

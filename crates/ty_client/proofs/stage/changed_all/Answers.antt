@@ -9,5 +9,5 @@ use Rattle.ty_client.proofs.stage.changed_all.Goals as goal
 
 pub returns-clause-small : goal.returns-clause-small
 returns-clause-small c =
-    let e : pairs c.loop-delta.staged ≡ fold changed (pairs c.args.pairs.now) c.args.deltas.now = grind (arith, common_steps) in
-    subst (λ (m : Pairs). pairs_fit m ≡ true) (sym e) (changes-pass key_fits value_fits c.args.deltas.now (pairs c.args.pairs.now) c.requires.limits c.requires.small)
+    let e : pairs c.loop-delta.staged ≡ fold changed (pairs c.args.pairs) c.args.deltas.now = grind (arith, common_steps) in
+    subst (λ (m : Pairs). pairs_fit m ≡ true) (sym e) (changes-pass key_fits value_fits c.args.deltas.now (pairs c.args.pairs) c.requires.limits c.requires.small)
