@@ -13,7 +13,6 @@ ghost use Rattle.ty_script.specs.Fits.{IsEvent, IsClient};
 ghost use Rattle.ty_core.specs.steps.Runs.{HasState, RunMoves, SlotsStand, AreTicking};
 
 use crate::chain::Chain;
-use ty_script::{CLIENTS, Event};
 use crate::fault::WorldFault;
 use crate::run::Run;
 use crate::slot::{Slot, cut, get, hear, join, step, tick};
@@ -22,6 +21,7 @@ use std::alloc::Global;
 use ty_base::{NoMemory, Text};
 use ty_client::At;
 use ty_crumb::Crumb;
+use ty_script::{CLIENTS, Event};
 
 impl Run {
     // Breadcrumb 0 at time 0, no connection, and no map is held.

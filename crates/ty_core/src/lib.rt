@@ -17,10 +17,10 @@ mod world;
 
 pub use chain::Chain;
 pub use client::{Client, Connection, Mark, Marks};
-pub use ty_script::{CLIENTS, Event, EventFault, TIME_LIMIT, read_event};
 pub use fault::WorldFault;
 pub use laws::clients_rebuild_the_worlds;
 pub use run::Run;
 pub use slot::Slot;
 pub use told::Told;
+pub use ty_script::{CLIENTS, Event, EventFault, TIME_LIMIT, read_event};
 pub use world::{Out, World};

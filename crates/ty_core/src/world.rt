@@ -10,7 +10,6 @@ ghost use Rattle.ty_script.specs.Fits.{IsEvent, IsClient};
 ghost use Rattle.ty_core.specs.Answers.{IfFeedFault, IsGoing, OnFault, IsShort};
 ghost use Rattle.ty_core.specs.steps.Runs.{HasState, RunTells, RunEnds};
 
-use ty_script::Event;
 use crate::fault::WorldFault;
 use crate::run::Run;
 use crate::text::report_text;
@@ -20,6 +19,7 @@ use ty_base::{NoMemory, Text};
 use ty_client::At;
 use ty_crumb::Crumb;
 use ty_intake::IntakeFault;
+use ty_script::Event;
 
 /// The lines that an event adds to the report.
 #[derive(Drop)]
