@@ -166,7 +166,7 @@ few_entries c items k =
           | false ↦ omega (arith, filter_few k (a + 1))
         ]
 
--- what `next_crumb` says of the items of a batch
+-- what is said of the items of a batch
 pub made_here : (m n : Made) (last : Crumb) (before items batch : List Item) (cut : ℕ) → m ≡ n → items ≡ batch
     → ((ended : Bool) (start : List Item) → IsClosed start → IsNextBatch ended start items → cut ≡ length start + length items → CrumbStands last (book false start) → IsMadeFor (book false start) (book ended (start ++ items)) m)
     → IsClosed before → IsNextBatch true before batch → cut ≡ length before + length batch → CrumbOf last before → IsMadeFor (book false before) (book true (before ++ batch)) n
@@ -175,6 +175,13 @@ made_here m n last before items batch cut i e h closed next at k =
     let Q : List Entry → Type 0 = CrumbStands last in
     let R : Made → Type 0 = IsMadeFor (book false before) (book true (before ++ batch)) in
     subst R i (subst P e h true before closed next at (subst Q (book_same before closed) k.stands))
+
+-- the same of a breadcrumb that was given up
+pub made_in : (m n : Made) (given last : Crumb) (before items batch : List Item) (cut : ℕ) → given ≡ last → m ≡ n → items ≡ batch
+    → ((ended : Bool) (start : List Item) → IsClosed start → IsNextBatch ended start items → cut ≡ length start + length items → CrumbStands given (book false start) → IsMadeFor (book false start) (book ended (start ++ items)) m)
+    → IsClosed before → IsNextBatch true before batch → cut ≡ length before + length batch → CrumbOf last before → IsMadeFor (book false before) (book true (before ++ batch)) n
+made_in m n given last before items batch cut g i e h closed next at k =
+    let P : Crumb → Type 0 = λ c. CrumbOf c before in made_here m n given before items batch cut i e h closed next at (subst P (sym g) k)
 
 -- the server hello, and breadcrumb 0 where it is asked for
 pub opened : (j : ℕ) (s : Status) (c : Crumb) (a b d : List ℕ) → CrumbOf c [] → a ≡ [] → b ≡ a ++ frame (ServerHello 1) → d ≡ b ++ frames (crumb_messages j s c) → d ≡ streamed [] j

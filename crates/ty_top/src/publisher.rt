@@ -10,8 +10,9 @@ ghost use Rattle.ty_intake.specs.Batches.{joined};
 ghost use Rattle.ty_top.specs.steps.Publisher.{Gave, CrumbOf, crumb_messages, Owed, AreGiven, AreGivenAndTold, gone_on};
 
 use std::alloc::Global;
+use std::mem;
 use ty_base::{NoMemory, Sink, Status, give_all, same_status};
-use ty_crumb::{Crumb, Made, next_crumb, snapshot};
+use ty_crumb::{Crumb, Followed, next_crumb_in, snapshot};
 use ty_intake::{Closed, Fed, IntakeFault};
 use ty_wire::{Msg, write, write_group};
 
@@ -121,10 +122,15 @@ fn publish<K: Sink>(
         → batch.now.cut ≡ length before + length batch.now.items → CrumbOf crumb.old before
         → AreGiven from result crumb.new before (before ++ batch.now.items) (K.seen sink.old) (K.seen sink.new) }
 {
-    match next_crumb(alloc, crumb, batch.items.as_slice(), batch.cut, 0) {
-        Ok(Made::Unchanged) => Ok(()),
-        Ok(Made::Crumb(next)) => {
-            let before = crumb.status;
+    let before = crumb.status;
+    // The last breadcrumb is given up, so that its map changes in place.
+    let last = mem::replace(crumb, Crumb::first(alloc, 0));
+    match next_crumb_in(alloc, last, batch.items.as_slice(), batch.cut, 0) {
+        Ok(Followed::Unchanged(last)) => {
+            *crumb = last;
+            Ok(())
+        }
+        Ok(Followed::Next(next)) => {
             *crumb = next;
             give_crumb(alloc, from, before, crumb, sink)
         }
