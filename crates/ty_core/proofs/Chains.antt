@@ -27,18 +27,18 @@ use Rattle.ty_core.specs.declared.chain.Chain.{Chain}
 use Rattle.ty_core.specs.declared.told.Told.{Told}
 use Rattle.ty_core.specs.declared.told.Told.TheVariants.{Published}
 use Rattle.ty_core.specs.Clients.{newest}
-use Rattle.ty_core.specs.Run.{State, no_state, book_of, trail, timed, lined, finished, items}
-use Rattle.ty_core.specs.Report.{shown, news}
+use Rattle.ty_core.specs.Run.{State, no_state, book_of, trail, timed, lined, finished, feed_items}
+use Rattle.ty_core.specs.Report.{world_shown, news}
 use Rattle.ty_core.specs.Held.{AreCrumbs, ChainStands}
-use Rattle.ty_core.specs.steps.Chains.{CrumbsOf, Owed, ArePublished, ChainMoved}
+use Rattle.ty_core.specs.steps.Chains.{CrumbsOf, AreOwed, ArePublished, ChainMoved}
 use Rattle.ty_core.proofs.ClosedBook.{book_closed}
 use Rattle.ty_core.proofs.Published.{ats}
 use Rattle.ty_core.proofs.WholeLines.{rest_lined, rest_ended, end_good}
 
 -- What is told of a breadcrumb
 
-pub shown_is : (s : State) (n : ℕ) → n ≤ length (book_of s) → rebuilt_after (book_of s) n ≡ shown s n
-shown_is s n h = ap (λ (w : World). numbered n w) (replays s.feed.ended (items s) n (omega (arith, h, book_length s.feed.ended (items s))))
+pub shown_is : (s : State) (n : ℕ) → n ≤ length (book_of s) → rebuilt_after (book_of s) n ≡ world_shown s n
+shown_is s n h = ap (λ (w : World). numbered n w) (replays s.feed.ended (feed_items s) n (omega (arith, h, book_length s.feed.ended (feed_items s))))
 
 map_same : {X : Type 0} (f g : ℕ → X) (k a : ℕ) → ((n : ℕ) → a ≤ n → n < a + k → f n ≡ g n) → map f (range_with_len a k) ≡ map g (range_with_len a k)
 map_same f g zero a h = refl
@@ -50,8 +50,8 @@ news_is : (old new : State) (from : ℕ) (told : List Told) → from ≡ newest 
     → told ≡ map (λ n. Published (rebuilt_after (book_of new) n)) (range_with_len (from + 1) (length (book_of new) - from)) → told ≡ news old new
 news_is old new from told e t =
     t
-    ∙ map_same (λ n. Published (rebuilt_after (book_of new) n)) (λ n. Published (shown new n)) (length (book_of new) - from) (from + 1) (λ n l m. ap Published (shown_is new n (omega arith)))
-    ∙ ap (λ k. map (λ n. Published (shown new n)) (range_with_len (k + 1) (length (book_of new) - k))) e
+    ∙ map_same (λ n. Published (rebuilt_after (book_of new) n)) (λ n. Published (world_shown new n)) (length (book_of new) - from) (from + 1) (λ n l m. ap Published (shown_is new n (omega arith)))
+    ∙ ap (λ k. map (λ n. Published (world_shown new n)) (range_with_len (k + 1) (length (book_of new) - k))) e
 
 -- Batches that come next
 
@@ -73,7 +73,7 @@ crumbs_of chain s st =
     }
 
 -- the batches that a longer feed closes are owed
-pub owed : (chain : Chain) (s : State) (feed : Feed) (closed : List Closed) → ChainStands chain s → batches_of feed ≡ batches_of s.feed ++ closed → list_all batch_fits closed ≡ true → Owed chain.crumbs.items closed
+pub owed : (chain : Chain) (s : State) (feed : Feed) (closed : List Closed) → ChainStands chain s → batches_of feed ≡ batches_of s.feed ++ closed → list_all batch_fits closed ≡ true → AreOwed chain.crumbs.items closed
 unfolding batches_of
 owed chain s feed closed st e fits = record {
   ended = is_whole feed;
@@ -92,13 +92,13 @@ owed_done chain s feed closed st e f = refl
 -- the chain behind a longer feed
 pub moved : (chain new : Chain) (s : State) (feed : Feed) (closed xs : List Closed) (told : List Told) (from now : ℕ) (st : ChainStands chain s)
     → batches_of feed ≡ batches_of s.feed ++ closed → list_all batch_fits closed ≡ true → xs ≡ closed → IntakeStands new.intake feed → feed_fault feed ≡ None → (cut_of feed).rest ≡ []
-    → ((o : Owed chain.crumbs.items xs) → ArePublished chain.crumbs.items new.crumbs.items now (joined o.done) (joined (o.done ++ xs)))
+    → ((o : AreOwed chain.crumbs.items xs) → ArePublished chain.crumbs.items new.crumbs.items now (joined o.done) (joined (o.done ++ xs)))
     → s.now ≡ now → from + 1 ≡ length chain.crumbs.items
     → ((es : List Entry) → AreCrumbs new.crumbs.items es → told ≡ map (λ n. Published (rebuilt_after es n)) (range_with_len (from + 1) (length es - from)))
     → ChainMoved new s (timed (record s { feed = feed })) told
 moved chain new s feed closed xs told from now st e fits same intake good whole publishes time from_is tells =
-    let publishes_closed : (o : Owed chain.crumbs.items closed) → ArePublished chain.crumbs.items new.crumbs.items now (joined o.done) (joined (o.done ++ closed)) =
-    (let P : List Closed → Type 0 = λ l. (o : Owed chain.crumbs.items l) → ArePublished chain.crumbs.items new.crumbs.items now (joined o.done) (joined (o.done ++ l)) in subst P same publishes) in
+    let publishes_closed : (o : AreOwed chain.crumbs.items closed) → ArePublished chain.crumbs.items new.crumbs.items now (joined o.done) (joined (o.done ++ closed)) =
+    (let P : List Closed → Type 0 = λ l. (o : AreOwed chain.crumbs.items l) → ArePublished chain.crumbs.items new.crumbs.items now (joined o.done) (joined (o.done ++ l)) in subst P same publishes) in
     let Q : List Closed → Type 0 = λ done. ArePublished chain.crumbs.items new.crumbs.items now (joined done) (joined (done ++ closed)) in
     let p : ArePublished chain.crumbs.items new.crumbs.items now (joined (batches_of s.feed)) (joined (batches_of s.feed ++ closed)) =
     subst Q (owed_done chain s feed closed st e fits) (publishes_closed (owed chain s feed closed st e fits)) in
@@ -181,7 +181,7 @@ news_step es told told' a from n t h is e =
 
 pub moved_line : (chain new : Chain) (s : State) (line piece : List ℕ) (closed xs : List Closed) (told : List Told) (from now : ℕ) (fault : Option IntakeFault) (st : ChainStands chain s) → piece ≡ line ++ 10 ∷ []
     → batches_of (fed_with s.feed piece) ≡ batches_of s.feed ++ closed → list_all batch_fits closed ≡ true → xs ≡ closed → IntakeStands new.intake (fed_with s.feed piece) → fault ≡ feed_fault (fed_with s.feed piece) → fault ≡ None
-    → ((o : Owed chain.crumbs.items xs) → ArePublished chain.crumbs.items new.crumbs.items now (joined o.done) (joined (o.done ++ xs)))
+    → ((o : AreOwed chain.crumbs.items xs) → ArePublished chain.crumbs.items new.crumbs.items now (joined o.done) (joined (o.done ++ xs)))
     → s.now ≡ now → from + 1 ≡ length chain.crumbs.items
     → ((es : List Entry) → AreCrumbs new.crumbs.items es → told ≡ map (λ n. Published (rebuilt_after es n)) (range_with_len (from + 1) (length es - from)))
     → ChainMoved new s (lined line s) told
@@ -196,7 +196,7 @@ faulty_line s line piece fault f is e some = ap (λ x. feed_fault (fed_with s.fe
 
 pub moved_end : (chain new : Chain) (s : State) (closed xs : List Closed) (told : List Told) (from now : ℕ) (st : ChainStands chain s)
     → batches_of (ended_now s.feed) ≡ batches_of s.feed ++ closed → list_all batch_fits closed ≡ true → xs ≡ closed → IntakeStands new.intake (ended_now s.feed)
-    → ((o : Owed chain.crumbs.items xs) → ArePublished chain.crumbs.items new.crumbs.items now (joined o.done) (joined (o.done ++ xs)))
+    → ((o : AreOwed chain.crumbs.items xs) → ArePublished chain.crumbs.items new.crumbs.items now (joined o.done) (joined (o.done ++ xs)))
     → s.now ≡ now → from + 1 ≡ length chain.crumbs.items
     → ((es : List Entry) → AreCrumbs new.crumbs.items es → told ≡ map (λ n. Published (rebuilt_after es n)) (range_with_len (from + 1) (length es - from)))
     → ChainMoved new s (finished s) told

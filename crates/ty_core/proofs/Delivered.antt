@@ -25,7 +25,7 @@ use Rattle.ty_marks.specs.Marks.{Mark, start, group, ping, AreMarks, group_numbe
 use Rattle.ty_wire.specs.Whole.{whole_in}
 use Rattle.ty_marks.proofs.Marks.{talk, pings}
 use Rattle.ty_wire.proofs.Whole.{reads-in}
-use Rattle.ty_core.specs.steps.Links.{IsFed}
+use Rattle.ty_core.specs.steps.Links.{IsPieceDelivered}
 
 -- ---- the messages of marks
 
@@ -143,7 +143,7 @@ behind ms more all e = ap (drop (length ms)) e ∙ drop-append_seam ms more
 pub fed : (es : List Entry) (marks : List Mark) (old new : RebuildHeld) (connections : List (List ℕ)) (a b : ℕ) (at_ends : List Rebuilt)
     → list_all is_small_entry es ≡ true → length es < 2 ^ 64 → AreMarks marks (length es) → a ≤ b → b ≤ length (bytes_of es marks) → b < 2 ^ 40
     → Brought old new connections (take a (bytes_of es marks)) (take (b - a) (drop a (bytes_of es marks))) (whole_in a (messages_of es marks)) at_ends
-    → IsFed new old connections (take b (bytes_of es marks)) (whole_in b (messages_of es marks)) es (drop (length (whole_in a (messages_of es marks))) (whole_in b (messages_of es marks))) at_ends
+    → IsPieceDelivered new old connections (take b (bytes_of es marks)) (whole_in b (messages_of es marks)) es (drop (length (whole_in a (messages_of es marks))) (whole_in b (messages_of es marks))) at_ends
 fed es marks old new connections a b at_ends p l m ab h short br =
     let bytes : List ℕ = bytes_of es marks in
     let all : List Msg = messages_of es marks in

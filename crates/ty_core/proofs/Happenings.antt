@@ -5,7 +5,7 @@ use Rattle.std.proofs.lemmas.Grind.{flat_map-append}
 use Rattle.ty_intake.specs.declared.intake.IntakeFault.{IntakeFault}
 use Rattle.ty_script.specs.declared.event.Event.{Event}
 use Rattle.ty_core.specs.declared.told.Told.{Told}
-use Rattle.ty_core.specs.Run.{State, Happening, on, end, Ran, going, over, went, goes, run_from, run, no_state, after, finished, fault_by}
+use Rattle.ty_core.specs.Run.{State, Happening, on, end, Ran, going, over, went, goes, run_from, run, no_state, next_state, finished, event_fault}
 use Rattle.ty_core.specs.Report.{report_from, report, told_if_going, told_of}
 use Rattle.ty_core.specs.Text.{lines, report_text}
 use Rattle.ty_core.specs.Answers.{IsGoing}
@@ -81,8 +81,8 @@ pub ran_event : (w w' : WorldHeld) (hs : List Happening) (e : Event) (text : Lis
 ran_event w w' hs e text none sp f tells st =
     let g : Goes w hs = going_of w hs none st in
     let x : RunTells w'.run g.state e text = tells g.state g.stands in
-    ran_by w' hs (on e) text (after g.state e) sp f
-    (ap (λ (r : Ran). goes r (on e)) g.is ∙ ap (λ o. went o (after g.state e)) x.good)
+    ran_by w' hs (on e) text (next_state g.state e) sp f
+    (ap (λ (r : Ran). goes r (on e)) g.is ∙ ap (λ o. went o (next_state g.state e)) x.good)
     x.stands
     (x.text_is ∙ ap (λ (r : Ran). report_text (told_of r (on e))) (sym g.is))
 
@@ -92,10 +92,10 @@ ran_end w w' hs text none sp f tells st =
     let x : RunEnds w'.run g.state text = tells g.state g.stands in
     ran_by w' hs end text (finished g.state) sp f (ap (λ (r : Ran). goes r end) g.is) x.stands (x.text_is ∙ ap (λ (r : Ran). report_text (told_of r end)) (sym g.is))
 
-pub faulty : (w : WorldHeld) (hs : List Happening) (e : Event) (f : IntakeFault) → w.fault ≡ None → ((s : State) → RunStands w.run s → fault_by s e ≡ Some f) → WorldStands w hs → run (hs ++ on e ∷ []) ≡ over f
+pub faulty : (w : WorldHeld) (hs : List Happening) (e : Event) (f : IntakeFault) → w.fault ≡ None → ((s : State) → RunStands w.run s → event_fault s e ≡ Some f) → WorldStands w hs → run (hs ++ on e ∷ []) ≡ over f
 faulty w hs e f none faults st =
     let g : Goes w hs = going_of w hs none st in
-    run-push hs (on e) ∙ ap (λ (r : Ran). goes r (on e)) g.is ∙ ap (λ o. went o (after g.state e)) (faults g.state g.stands)
+    run-push hs (on e) ∙ ap (λ (r : Ran). goes r (on e)) g.is ∙ ap (λ o. went o (next_state g.state e)) (faults g.state g.stands)
 
 -- Behind a fault
 

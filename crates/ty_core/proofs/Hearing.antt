@@ -37,7 +37,7 @@ use Rattle.ty_core.specs.Run.{too_much_if, hear_fault}
 use Rattle.ty_core.specs.Report.{told_hear}
 use Rattle.ty_core.specs.Links.{phase_of, stance_of, heard_before, story_of, IsConnection, IsLink}
 use Rattle.ty_core.specs.Held.{IsLinked, LinkStands, SlotStands}
-use Rattle.ty_core.specs.steps.Links.{IsHeard}
+use Rattle.ty_core.specs.steps.Links.{AllIsHeard}
 use Rattle.ty_core.specs.steps.Slots.{LinkHears, SlotMoves, is_greeted_phase}
 use Rattle.ty_core.proofs.Upward.{sent-wire, bytes-both, heard-whole, no-reason}
 use Rattle.ty_core.proofs.Moving.{heard-story, joined-story}
@@ -88,7 +88,7 @@ module _ (es : List Entry) (k : Connection) where
       short_by sv.unread.fault sv.unread (frames (heard_before es k)) (heard_before es k) h.no_wire_fault h.frames_stand.1
 
   pub heard_is : (rb rb' : RebuildHeld) (sv sv' : SessionHeld) (before : List (List ℕ)) (now count n : ℕ) (bytes : List ℕ) → list_all is_small_entry es ≡ true → length es < INPUT_BYTES → IsLink rb sv es k before → bytes ≡ rb.up
-      → ((s : Story) → SessionStands sv s → HeardMore sv' now bytes count s) → rb' ≡ record rb { up = drop n rb.up } → n ≡ length rb.up → IsHeard rb' sv' es now k before count
+      → ((s : Story) → SessionStands sv s → HeardMore sv' now bytes count s) → rb' ≡ record rb { up = drop n rb.up } → n ≡ length rb.up → AllIsHeard rb' sv' es now k before count
   heard_is rb rb' sv sv' before now count n bytes texts few l b hears e all =
       let s : Story = story_of es l.looked k in
       let h : HeardMore sv' now bytes count s = hears s l.session_stands in
@@ -162,7 +162,7 @@ module _ (es : List Entry) (k : Connection) where
       never false = refl
 
   -- nothing is on its way up any more
-  settled : (rb : RebuildHeld) (sv : SessionHeld) (before : List (List ℕ)) (now count looked : ℕ) → IsHeard rb sv es now k before count → SessionStands sv (story_of es looked (heard_at now k)) → IsLinked rb sv es (heard_at now k)
+  settled : (rb : RebuildHeld) (sv : SessionHeld) (before : List (List ℕ)) (now count looked : ℕ) → AllIsHeard rb sv es now k before count → SessionStands sv (story_of es looked (heard_at now k)) → IsLinked rb sv es (heard_at now k)
   settled rb sv before now count looked x st = (
     before,
     record {
@@ -197,7 +197,7 @@ module _ (es : List Entry) (k : Connection) where
       yes true e = refl
       yes false e = absurd (true≢false e)
 
-  pub hears_only : (rb : RebuildHeld) (sv : SessionHeld) (before : List (List ℕ)) (now c count : ℕ) (ts : List Told) → IsHeard rb sv es now k before count → is_greeted_phase sv.stance.phase ≡ false → ts ≡ ToldHeard c count ∷ []
+  pub hears_only : (rb : RebuildHeld) (sv : SessionHeld) (before : List (List ℕ)) (now c count : ℕ) (ts : List Told) → AllIsHeard rb sv es now k before count → is_greeted_phase sv.stance.phase ≡ false → ts ≡ ToldHeard c count ∷ []
       → LinkHears rb sv es k now c ts
   hears_only rb sv before now c count ts x g t =
       let u : length (unheard es k) ≡ k.up = unheard_len x.connection.up in
@@ -246,7 +246,7 @@ module _ (es : List Entry) (k : Connection) where
       no true e = absurd (true≢false (sym e))
       no false e = refl
 
-  pub joins_heard : (rb : RebuildHeld) (sv sv' : SessionHeld) (before : List (List ℕ)) (now c count newest : ℕ) (ts : List Told) → (x : IsHeard rb sv es now k before count) → is_greeted_phase sv.stance.phase ≡ true
+  pub joins_heard : (rb : RebuildHeld) (sv sv' : SessionHeld) (before : List (List ℕ)) (now c count newest : ℕ) (ts : List Told) → (x : AllIsHeard rb sv es now k before count) → is_greeted_phase sv.stance.phase ≡ true
       → SessionStands sv' (joined_at now es (heard_more now (frames (unheard es k)) (unheard es k) (story_of es x.looked k))) → newest ≡ length es → ts ≡ ToldHeard c count ∷ ToldJoined c newest ∷ []
       → LinkHears rb sv' es k now c ts
   joins_heard rb sv sv' before now c count newest ts x g st at t =
@@ -287,7 +287,7 @@ module _ (es : List Entry) (k : Connection) where
   greeted_phase Joined e = absurd (true≢false (sym e))
   greeted_phase Over e = absurd (true≢false (sym e))
 
-  pub heard_phase : (rb : RebuildHeld) (sv : SessionHeld) (before : List (List ℕ)) (now count : ℕ) (x : IsHeard rb sv es now k before count) → is_greeted_phase sv.stance.phase ≡ true → (heard_by now (unheard es k) (stance_of x.looked k)).phase ≡ Greeted
+  pub heard_phase : (rb : RebuildHeld) (sv : SessionHeld) (before : List (List ℕ)) (now count : ℕ) (x : AllIsHeard rb sv es now k before count) → is_greeted_phase sv.stance.phase ≡ true → (heard_by now (unheard es k) (stance_of x.looked k)).phase ≡ Greeted
   heard_phase rb sv before now count x g = greeted_phase (heard_by now (unheard es k) (stance_of x.looked k)).phase (sym (ap (λ (y : Stance). is_greeted_phase y.phase) x.session_stands.stance) ∙ g)
 
 -- One client

@@ -14,7 +14,7 @@ use Rattle.ty_script.specs.declared.event.Event.{Event}
 use Rattle.ty_script.specs.declared.event.Event.TheVariants.{Line, Join, Step, Get, Hear, Cut, Tick}
 use Rattle.ty_script.specs.declared.event.TheConstants.{CLIENTS, TIME_LIMIT}
 use Rattle.ty_core.specs.Clients.{Trail, newest, no_client, got_with, numbers_came, join_link, hear_link, step_link, get_client, tick_link}
-use Rattle.ty_core.specs.Run.{State, no_state, book_of, trail, client, link, with_client, tick_client, after, finished, too_much_if, get_fault, fault_by, Happening, on, end, Ran, going, over, went, goes}
+use Rattle.ty_core.specs.Run.{State, no_state, book_of, trail, client, link, with_client, tick_client, next_state, finished, too_much_if, get_fault, event_fault, Happening, on, end, Ran, going, over, went, goes}
 use Rattle.ty_script.specs.Fits.{IsEvent}
 use Rattle.ty_core.specs.Interleavings.{CanHappen}
 use Rattle.ty_core.proofs.LongerBooks.{fed_longer, ended_longer}
@@ -151,8 +151,8 @@ with_more s new f l n c =
       later = l;
     }
 
-behind_event : (s : State) (e : Event) → IsFit s → IsEvent s.now e → fault_by s e ≡ None → Leads s (after s e)
-behind_event s (Line line) f h n = with_more s (after s (Line line)) f (fed_longer s.feed (line ++ 10 ∷ [])) refl refl
+behind_event : (s : State) (e : Event) → IsFit s → IsEvent s.now e → event_fault s e ≡ None → Leads s (next_state s e)
+behind_event s (Line line) f h n = with_more s (next_state s (Line line)) f (fed_longer s.feed (line ++ 10 ∷ [])) refl refl
 behind_event s (Join c) f h n =
     let x : IsFine (book_of s) (client s c) = client_fine s c f in
     with_new s c (record (client s c) { link = join_link s.now (link s c) }) f (record { link = joined_link (book_of s) s.now (link s c) x.link; held = x.held })
@@ -179,10 +179,10 @@ went_on None s s' e = (refl, ap (λ r. state_of r s) e)
 went_on (Some f) s s' e = cc
 
 pub behind : (s s' : State) (h : Happening) → IsFit s → CanHappen (going s) h → goes (going s) h ≡ going s' → Leads s s'
-behind s s' (on e) f c g =
-    let w = went_on (fault_by s e) (after s e) s' g in
+next_state s s' (on e) f c g =
+    let w = went_on (event_fault s e) (next_state s e) s' g in
     let P : State → Type 0 = Leads s in
     subst P w.1 (behind_event s e f c w.0)
-behind s s' end f c g =
+next_state s s' end f c g =
     let P : State → Type 0 = Leads s in
     subst P (ap (λ r. state_of r s) g) (with_more s (finished s) f (ended_longer s.feed) refl refl)

@@ -20,7 +20,7 @@ use Rattle.ty_session.specs.Held.{SessionHeld, SessionStands}
 use Rattle.ty_core.specs.declared.client.Connection.{Connection}
 use Rattle.ty_core.specs.Clients.{told, down, sent, unheard, came, got_with}
 use Rattle.ty_core.specs.Links.{IsLink, IsConnection, story_of}
-use Rattle.ty_core.specs.steps.Links.{IsFed, IsDelivered}
+use Rattle.ty_core.specs.steps.Links.{IsPieceDelivered, IsDelivered}
 use Rattle.ty_core.proofs.Delivered.{fed}
 use Rattle.ty_core.proofs.Steps.{sent-got, unheard-got, got-story, got-at-most}
 
@@ -49,7 +49,7 @@ delivered rb rb' sv sv' p k connections n count bytes at_ends fault texts few l 
     let marks : AreMarks k.marks (length p) = marks-more k.marks k.offered (length p) x.marks x.offered in
     let br : Brought rb rb' connections (take k.got all) (take (to - k.got) (drop k.got all)) (whole_in k.got (told p k)) at_ends =
     subst (λ (y : List ℕ). Brought rb rb' connections (take k.got all) y (whole_in k.got (told p k)) at_ends) piece (feeds connections (take k.got all) (whole_in k.got (told p k)) l.client_stands) in
-    let w : IsFed rb' rb connections (take to all) (whole_in to (told p k)) p (came p k n) at_ends =
+    let w : IsPieceDelivered rb' rb connections (take to all) (whole_in to (told p k)) p (came p k n) at_ends =
     fed p k.marks rb rb' connections k.got to at_ends texts (omega (arith, few)) marks (got-at-most p k n x.got) (omega arith) short br in
     record {
       link = record {

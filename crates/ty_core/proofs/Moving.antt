@@ -24,14 +24,14 @@ use Rattle.ty_wire.specs.Whole.{whole_in}
 use Rattle.ty_wire.proofs.Whole.{whole-zero}
 use Rattle.ty_core.specs.declared.client.Connection.{Connection}
 use Rattle.ty_core.specs.declared.client.Connection.{Connection}
-use Rattle.ty_core.specs.Clients.{Trail, told, sent, unheard, next_link, closed_link, grouped_link, heard_at, joined_link, held_deltas}
+use Rattle.ty_core.specs.Clients.{Trail, told, sent, unheard, next_link, closed_link, grouped_link, heard_at, joined_link, ungrouped_deltas}
 use Rattle.ty_core.specs.Links.{IsLink, phase_of, story_of, stance_of, heard_before}
 use Rattle.ty_core.proofs.Steps.{next-story, close-story}
 use Rattle.ty_core.proofs.Relinking.{relink}
 use Rattle.ty_core.proofs.Upward.{both-ways}
 
 -- the group that the session holds is that of the run
-same_deltas : (p : List Entry) (k : Connection) (looked : ℕ) → end_after 0 k.marks ≤ k.offered → k.offered ≤ length p → story_deltas (story_of p looked k) ≡ held_deltas p k
+same_deltas : (p : List Entry) (k : Connection) (looked : ℕ) → end_after 0 k.marks ≤ k.offered → k.offered ≤ length p → story_deltas (story_of p looked k) ≡ ungrouped_deltas p k
 same_deltas p k looked f o =
     let es : List Entry = take k.offered p in
     let n : length es ≡ k.offered = omega (arith, length-take k.offered p, o) in
@@ -66,7 +66,7 @@ moves rb sv sv' t now k connections at d l o a h =
     let P : Story → ℕ → Type 0 = λ x y. SessionStands sv' (cond (closes_group y now (length (story_deltas x))) (closed x) x) in
     let moved : SessionStands sv' (cond (closes_group (slice_index t.times (k.offered + 1)) now (length (story_deltas (story_of p l.looked k')))) (closed (story_of p l.looked k')) (story_of p l.looked k')) =
     subst (P (story_of p l.looked k')) a (subst (λ (x : Story). P x at) (sym next) st) in
-    move_by (closes_group (slice_index t.times k'.offered) now (length (held_deltas p k'))) rb sv sv' p k k' connections l.looked refl l within
+    move_by (closes_group (slice_index t.times k'.offered) now (length (ungrouped_deltas p k'))) rb sv sv' p k k' connections l.looked refl l within
     (subst (λ (ds : List Delta). SessionStands sv' (cond (closes_group (slice_index t.times k'.offered) now (length ds)) (closed (story_of p l.looked k')) (story_of p l.looked k'))) (same_deltas p k' l.looked from within) moved)
 
 -- ---- what is heard behind the joining

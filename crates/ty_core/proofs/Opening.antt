@@ -16,7 +16,7 @@ use Rattle.ty_core.specs.declared.client.Connection.{Connection}
 use Rattle.ty_core.specs.declared.slot.Slot.{Slot}
 use Rattle.ty_core.specs.declared.told.Told.{Told}
 use Rattle.ty_core.specs.declared.told.Told.TheVariants.{Opened, Present, Lost, Absent}
-use Rattle.ty_core.specs.Clients.{down, delivered, sent, unheard, opened_at, join_link}
+use Rattle.ty_core.specs.Clients.{down, delivered, sent, unheard, new_link, join_link}
 use Rattle.ty_core.specs.Report.{told_join, told_cut}
 use Rattle.ty_core.specs.Held.{HasHeard, IsLinked, LinkStands, SlotStands}
 use Rattle.ty_core.specs.steps.Slots.{SlotMoves}
@@ -37,9 +37,9 @@ restands rb up before bytes ms x = record {
 }
 
 pub opened : (rb rb' : RebuildHeld) (sv : SessionHeld) (es : List Entry) (now : ℕ) (before : List (List ℕ)) (host : List ℕ) → host ≡ codes "follower" → RebuildStands rb before [] [] → rb.fault ≡ None → rb.up ≡ []
-    → rb' ≡ record rb { up = rb.up ++ frame (ClientHello 1 host) } → SessionStands sv (begun now) → IsLinked rb' sv es (opened_at now)
+    → rb' ≡ record rb { up = rb.up ++ frame (ClientHello 1 host) } → SessionStands sv (begun now) → IsLinked rb' sv es (new_link now)
 opened rb rb' sv es now before host is st f u e ss =
-    let k : Connection = opened_at now in
+    let k : Connection = new_link now in
     let none : delivered es k ≡ [] = ap (whole_in 0) (nothing-told es now) ∙ whole-none 0 in
     let one : sent es k ≡ hello ∷ [] = ap (λ (ms : List Msg). hello ∷ pongs ms) none in
     let all : unheard es k ≡ hello ∷ [] = ap (λ (ms : List Msg). drop (length ms - 1) ms) one in
@@ -99,7 +99,7 @@ joins_present slot sv es k c now ts e t st =
     }
 
 pub joins_open : (slot : Slot) (rb : RebuildHeld) (sv : SessionHeld) (es : List Entry) (k : Client) (c now : ℕ) (ts : List Told) → slot.session ≡ None → ts ≡ Opened c ∷ [] → rb.held ≡ slot.rebuild.held
-    → (HasHeard slot.rebuild → IsLinked rb sv es (opened_at now)) → SlotStands slot es k
+    → (HasHeard slot.rebuild → IsLinked rb sv es (new_link now)) → SlotStands slot es k
     → SlotMoves (record slot { rebuild = rb; session = Some sv }) es (with_link k (join_link now k.link)) ts (told_join c k.link)
 joins_open slot rb sv es k c now ts e t h opens st =
     let L : Option SessionHeld → Type 0 = λ s. LinkStands slot.rebuild s es k.link in

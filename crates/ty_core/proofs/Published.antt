@@ -21,7 +21,7 @@ use Rattle.ty_crumb.proofs.Book.{the_book_grows}
 use Rattle.ty_intake.specs.declared.batch.Closed.{Closed}
 use Rattle.ty_intake.specs.Batches.{batches, batch_fits, joined}
 use Rattle.ty_core.specs.Held.{AreCrumbs, LastWithin}
-use Rattle.ty_core.specs.steps.Chains.{CrumbsOf, Owed, ArePublished}
+use Rattle.ty_core.specs.steps.Chains.{CrumbsOf, AreOwed, ArePublished}
 use Rattle.ty_intake.proofs.NextBatches.{IsNext, next_of, joined_more, is_batch, next_at_end}
 use Rattle.ty_core.proofs.ClosedBook.{book_same}
 use Rattle.ty_core.proofs.Small.{items_within}
@@ -190,7 +190,7 @@ made_here m n last before items batch cut i e h closed next at k =
 
 -- The batches that are owed
 
-module _ (c0 : List Crumb) (closed : List Closed) (i : ℕ) (b : Closed) (h : i < length closed) (is : b ≡ get_or closed i b) (o : Owed c0 closed) where
+module _ (c0 : List Crumb) (closed : List Closed) (i : ℕ) (b : Closed) (h : i < length closed) (is : b ≡ get_or closed i b) (o : AreOwed c0 closed) where
   abbrev front : List Closed
   front = o.done ++ take i closed
 
@@ -229,12 +229,12 @@ module _ (c0 : List Crumb) (closed : List Closed) (i : ℕ) (b : Closed) (h : i 
         subst P (sym (joined_more front b) ∙ ap joined (sym front_more))
         (published_then c0 cs ds now (joined o.done) (joined front) (joined front ++ b.items) p (s (joined front) is_next.closed (next_at_end o.ended (joined front) b.items is_next.next) is_next.cut p.crumbs_of))
 
-pub published_begins : (cs : List Crumb) (closed : List Closed) (now : ℕ) (o : Owed cs closed) → ArePublished cs cs now (joined o.done) (joined (o.done ++ []))
+pub published_begins : (cs : List Crumb) (closed : List Closed) (now : ℕ) (o : AreOwed cs closed) → ArePublished cs cs now (joined o.done) (joined (o.done ++ []))
 published_begins cs closed now o =
     let P : List Closed → Type 0 = λ l. ArePublished cs cs now (joined o.done) (joined l) in
     subst P (sym (append-nil o.done)) (published_at_once cs now (joined o.done) o.crumbs_of)
 
-pub published_all : (c0 cs : List Crumb) (closed : List Closed) (i now : ℕ) (o : Owed c0 closed) → length closed ≤ i → ArePublished c0 cs now (joined o.done) (joined (o.done ++ take i closed)) → ArePublished c0 cs now (joined o.done) (joined (o.done ++ closed))
+pub published_all : (c0 cs : List Crumb) (closed : List Closed) (i now : ℕ) (o : AreOwed c0 closed) → length closed ≤ i → ArePublished c0 cs now (joined o.done) (joined (o.done ++ take i closed)) → ArePublished c0 cs now (joined o.done) (joined (o.done ++ closed))
 published_all c0 cs closed i now o h p =
     let P : List Closed → Type 0 = λ l. ArePublished c0 cs now (joined o.done) (joined (o.done ++ l)) in
     subst P (take_all i closed h) p

@@ -15,7 +15,7 @@ use Rattle.ty_marks.proofs.Marks.{messages-more, messages_of-more}
 use Rattle.ty_session.proofs.Marks.{marks-ping, marks-close, marks-more, marks-end, bytes-none}
 use Rattle.ty_session.specs.Times.{closes_group, is_ping_due}
 use Rattle.ty_core.specs.declared.client.Connection.{Connection}
-use Rattle.ty_core.specs.Clients.{Trail, told, down, sent, came, got_with, time_of, newest, opened_at, is_heard, heard_at, joined_link, hear_link, is_holding, closed_link, idle_link, next_link, held_deltas, grouped_link, is_behind, is_too_slow, step_link, get_link, is_dropped, is_pinged, ping_link, tick_link}
+use Rattle.ty_core.specs.Clients.{Trail, told, down, sent, came, got_with, time_of, newest, new_link, is_heard, heard_at, joined_link, hear_link, has_ungrouped, closed_link, idle_link, next_link, ungrouped_deltas, grouped_link, is_behind, is_too_slow, step_link, get_link, is_dropped, is_pinged, ping_link, tick_link}
 use Rattle.ty_core.specs.Links.{IsConnection}
 use Rattle.ty_core.proofs.Steps.{sent-got}
 
@@ -69,7 +69,7 @@ module _ (es : List Entry) (k : Connection) where
   }
 
   pub idle_reached : IsReached es k → k.has_joined ≡ true → IsReached es (idle_link k)
-  idle_reached r j = elim (is_holding k) as (λ b. is_holding k ≡ b → IsReached es (cond b (closed_link k) k)) [
+  idle_reached r j = elim (has_ungrouped k) as (λ b. has_ungrouped k ≡ b → IsReached es (cond b (closed_link k) k)) [
     | true ↦ λ h. closes r j (ltb-true (end_after 0 k.marks) k.offered h)
     | false ↦ λ h. r
   ] refl
@@ -137,7 +137,7 @@ module _ (es : List Entry) (k : Connection) where
     | false ↦ r
   ]
 
-pub opened_reached : (es : List Entry) (now : ℕ) → IsReached es (opened_at now)
+pub opened_reached : (es : List Entry) (now : ℕ) → IsReached es (new_link now)
 opened_reached es now = record {
   connection = record { marks = tt; offered = omega arith; got = omega arith; got_short = omega arith; up = omega arith };
   joined = λ e. absurd (true≢false (sym e));
@@ -154,7 +154,7 @@ grouped_reached : (t : Trail) (now : ℕ) (k : Connection) → IsReached t.entri
 grouped_reached t now k r j h =
     let k' : Connection = next_link k in
     let n : IsReached t.entries k' = next_reached t.entries k r h in
-    elim (closes_group (time_of t k'.offered) now (length (held_deltas t.entries k'))) as (λ b. IsReached t.entries (cond b (closed_link k') k')) [
+    elim (closes_group (time_of t k'.offered) now (length (ungrouped_deltas t.entries k'))) as (λ b. IsReached t.entries (cond b (closed_link k') k')) [
       | true ↦ closes t.entries k' n j (omega (arith, marks-end k.marks k.offered r.connection.marks))
       | false ↦ n
     ]

@@ -22,8 +22,8 @@ use Rattle.ty_intake.proofs.JoinedBatches.{few-of}
 use Rattle.ty_intake.proofs.SmallItems.{items_small}
 use Rattle.ty_core.specs.declared.client.Connection.{Connection}
 use Rattle.ty_core.specs.Clients.{newest, told, down}
-use Rattle.ty_core.specs.Run.{State, items, book_of, trail}
-use Rattle.ty_core.specs.Report.{shown}
+use Rattle.ty_core.specs.Run.{State, feed_items, book_of, trail}
+use Rattle.ty_core.specs.Report.{world_shown}
 use Rattle.ty_core.specs.Interleavings.{AreRising}
 use Rattle.ty_core.proofs.Chains.{shown_is}
 use Rattle.ty_core.proofs.Delivered.{heard, worlds, whole-rest, told_numbers}
@@ -47,20 +47,20 @@ numbers_rising es (group n ∷ marks) a = absurd a
 numbers_rising es (ping ts ∷ marks) a = absurd a
 
 -- their worlds
-rise_shown : (s : State) (n : ℕ) (ns : List ℕ) → Rise n ns (newest (trail s)) → map (rebuilt_after (book_of s)) (n ∷ ns) ≡ map (shown s) (n ∷ ns)
+rise_shown : (s : State) (n : ℕ) (ns : List ℕ) → Rise n ns (newest (trail s)) → map (rebuilt_after (book_of s)) (n ∷ ns) ≡ map (world_shown s) (n ∷ ns)
 rise_shown s n [] r = ap (λ (x : Rebuilt). x ∷ []) (shown_is s n r)
 rise_shown s n (m ∷ ns) r =
     ap (λ (x : Rebuilt). x ∷ map (rebuilt_after (book_of s)) (m ∷ ns)) (shown_is s n (within n (m ∷ ns) (newest (trail s)) r))
-    ∙ ap (λ (l : List Rebuilt). shown s n ∷ l) (rise_shown s m ns r.1)
+    ∙ ap (λ (l : List Rebuilt). world_shown s n ∷ l) (rise_shown s m ns r.1)
 
-rising_shown : (s : State) (ns : List ℕ) → AreRising ns (newest (trail s)) → map (rebuilt_after (book_of s)) ns ≡ map (shown s) ns
+rising_shown : (s : State) (ns : List ℕ) → AreRising ns (newest (trail s)) → map (rebuilt_after (book_of s)) ns ≡ map (world_shown s) ns
 rising_shown s [] r = refl
 rising_shown s (n ∷ ns) r = rise_shown s n ns r
 
 -- One connection
 
 pub received : (s : State) (k : Connection) (bytes more : List ℕ) → IsReached (book_of s) k → bytes ++ more ≡ down (book_of s) k → length bytes < INPUT_BYTES
-    → (ms : List Msg) × (ns : List ℕ) × Hears bytes ms None × (ats ms ≡ map (shown s) ns) × AreRising ns (newest (trail s))
+    → (ms : List Msg) × (ns : List ℕ) × Hears bytes ms None × (ats ms ≡ map (world_shown s) ns) × AreRising ns (newest (trail s))
 received s k bytes more r e short =
     let es : List Entry = book_of s in
     let n : ℕ = length bytes in
@@ -69,7 +69,7 @@ received s k bytes more r e short =
     let marks : AreMarks k.marks (length es) = marks-more k.marks k.offered (length es) r.connection.marks r.connection.offered in
     let rest = whole-rest n (told es k) in
     let front : take n (down es k) ≡ bytes = ap (take n) (sym e) ∙ take-append_seam bytes more in
-    let hears = heard es k.marks n (book_passes s.feed.ended (items s) (items_small s.feed)) (book_few s.feed.ended (items s) (omega (arith, few-of s.feed))) marks (omega (arith, ap length e, length-append bytes more)) short in
+    let hears = heard es k.marks n (book_passes s.feed.ended (feed_items s) (items_small s.feed)) (book_few s.feed.ended (feed_items s) (omega (arith, few-of s.feed))) marks (omega (arith, ap length e, length-append bytes more)) short in
     let rising : AreRising ns (length es) =
     front_rising ns (filter_map told_number rest.0) (length es)
     (subst (λ l. AreRising l (length es)) (ap (filter_map told_number) rest.1 ∙ filter_map-append told_number ms rest.0) (numbers_rising es k.marks marks)) in

@@ -32,8 +32,8 @@ use Rattle.ty_core.specs.declared.slot.Slot.{Slot}
 use Rattle.ty_core.specs.declared.told.Told.{Told}
 use Rattle.ty_core.specs.declared.told.Told.TheVariants.{Rebuilt as AtEnd, Still, Ended}
 use Rattle.ty_core.specs.Clients.{Trail, newest, no_client, down, numbers_came, join_link, hear_link, step_link, get_client}
-use Rattle.ty_core.specs.Run.{State, no_state, book_of, trail, client, link, with_client, timed, lined, finished, tick_client, ticked, after, fault_by, hear_fault, get_fault}
-use Rattle.ty_core.specs.Report.{shown, news, told_join, told_hear, told_step, told_ends, told_get, told_cut, told_tick, told_ticks, told_by, told_end}
+use Rattle.ty_core.specs.Run.{State, no_state, book_of, trail, client, link, with_client, timed, lined, finished, tick_client, behind_tick, next_state, event_fault, hear_fault, get_fault}
+use Rattle.ty_core.specs.Report.{world_shown, news, told_join, told_hear, told_step, told_ends, told_get, told_cut, told_tick, told_ticks, event_told, told_end}
 use Rattle.ty_core.specs.Held.{ChainStands, LinkStands, SlotStands, RunStands}
 use Rattle.ty_script.specs.Fits.{IsClient}
 use Rattle.ty_core.specs.steps.Chains.{ChainMoved}
@@ -154,21 +154,21 @@ run_client r r' s c slot new st h chain now slots stands =
 
 -- What is told of the numbers that come, by their worlds
 
-maps_same : (s : State) (c : ℕ) (ns : List ℕ) → AllByRecursion (λ m. m ≤ length (book_of s)) ns → map (λ m. AtEnd c (rebuilt_after (book_of s) m)) ns ≡ map (λ m. AtEnd c (shown s m)) ns
+maps_same : (s : State) (c : ℕ) (ns : List ℕ) → AllByRecursion (λ m. m ≤ length (book_of s)) ns → map (λ m. AtEnd c (rebuilt_after (book_of s) m)) ns ≡ map (λ m. AtEnd c (world_shown s m)) ns
 maps_same s c [] a = refl
 maps_same s c (n ∷ ns) a =
     ap (λ (x : Rebuilt). AtEnd c x ∷ map (λ m. AtEnd c (rebuilt_after (book_of s) m)) ns) (shown_is s n a.0)
-    ∙ ap (λ (l : List Told). AtEnd c (shown s n) ∷ l) (maps_same s c ns a.1)
+    ∙ ap (λ (l : List Told). AtEnd c (world_shown s n) ∷ l) (maps_same s c ns a.1)
 
-pub held_same : (s : State) (held : Option ℕ) → IfSome held (λ n. n ≤ length (book_of s)) → option_map (rebuilt_after (book_of s)) held ≡ option_map (shown s) held
+pub held_same : (s : State) (held : Option ℕ) → IfSome held (λ n. n ≤ length (book_of s)) → option_map (rebuilt_after (book_of s)) held ≡ option_map (world_shown s) held
 held_same s None h = refl
 held_same s (Some n) h = ap Some (shown_is s n h)
 
-ends_same : (s : State) (c : ℕ) (held : Option ℕ) (ns : List ℕ) → IfSome held (λ n. n ≤ length (book_of s)) → AllByRecursion (λ m. m ≤ length (book_of s)) ns → told_ends (rebuilt_after (book_of s)) c held ns ≡ told_ends (shown s) c held ns
+ends_same : (s : State) (c : ℕ) (held : Option ℕ) (ns : List ℕ) → IfSome held (λ n. n ≤ length (book_of s)) → AllByRecursion (λ m. m ≤ length (book_of s)) ns → told_ends (rebuilt_after (book_of s)) c held ns ≡ told_ends (world_shown s) c held ns
 ends_same s c held [] h a = ap (λ (x : Option Rebuilt). Still c x ∷ []) (held_same s held h)
 ends_same s c held (n ∷ ns) h a = maps_same s c (n ∷ ns) a
 
-pub gets_same : (s : State) (c n : ℕ) (held : Option ℕ) (link : Option Connection) → IfSome held (λ n. n ≤ length (book_of s)) → LinkNumbers (book_of s) n link → told_get (rebuilt_after (book_of s)) (book_of s) c n held link ≡ told_get (shown s) (book_of s) c n held link
+pub gets_same : (s : State) (c n : ℕ) (held : Option ℕ) (link : Option Connection) → IfSome held (λ n. n ≤ length (book_of s)) → LinkNumbers (book_of s) n link → told_get (rebuilt_after (book_of s)) (book_of s) c n held link ≡ told_get (world_shown s) (book_of s) c n held link
 gets_same s c n held None h a = refl
 gets_same s c n held (Some k) h a = ends_same s c held (numbers_came (book_of s) k n) h a
 
@@ -241,9 +241,9 @@ ticks_end slots es clients i now told len h t = (
     mapped None c e = cc
     mapped (Some x) c e = (x, refl, cc)
 
-pub run_ticked : (r r' : Run) (s : State) (ms : ℕ) → RunStands r s → r'.chain ≡ r.chain → r'.time ≡ r.time + ms → SlotsStand r'.slots.items (book_of s) (map (tick_client (s.now + ms)) s.clients) → RunStands r' (ticked ms s)
+pub run_ticked : (r r' : Run) (s : State) (ms : ℕ) → RunStands r s → r'.chain ≡ r.chain → r'.time ≡ r.time + ms → SlotsStand r'.slots.items (book_of s) (map (tick_client (s.now + ms)) s.clients) → RunStands r' (behind_tick ms s)
 run_ticked r r' s ms st chain now slots =
-    let P : Chain → Type 0 = λ x. ChainStands x (ticked ms s) in
+    let P : Chain → Type 0 = λ x. ChainStands x (behind_tick ms s) in
     record {
       chain = subst P (sym chain) (chain_kept r.chain s (s.now + ms) (map (tick_client (s.now + ms)) s.clients) st.chain);
       now = now ∙ ap (λ n. n + ms) st.now;
@@ -297,7 +297,7 @@ ends_run r r' s told all newest st m t e n a = (
 )
 
 pub moves_client : (r r' : Run) (s : State) (c : ℕ) (slot : Slot) (e : Event) (new : Client) (told wanted : List Told) → RunStands r s → IsClient c → r'.chain ≡ r.chain → r'.time ≡ r.time → r'.slots.items ≡ set r.slots.items (c - 1) slot
-    → SlotMoves slot (book_of s) new told wanted → after s e ≡ with_client s c new → fault_by s e ≡ None → wanted ≡ told_by s e → RunMoves r' s e told
+    → SlotMoves slot (book_of s) new told wanted → next_state s e ≡ with_client s c new → event_fault s e ≡ None → wanted ≡ event_told s e → RunMoves r' s e told
 moves_client r r' s c slot e new told wanted st h chain time slots m is good w =
     let P : State → Type 0 = λ x. RunStands r' x in
     record {
@@ -328,7 +328,7 @@ moves_hear r r' s c old slot told st h chain time slots at m good =
     (ap (λ n. with_client s c (record (client s c) { link = option_map (hear_link (newest (trail s)) n) (link s c) })) (sym st.now)) (good (trail s) (client s c) a o) refl
 
 pub faults_hear : (r : Run) (s : State) (c : ℕ) (old : Slot) (f : IntakeFault) → RunStands r s → IsClient c → old ≡ get_or r.slots.items (c - 1) old
-    → ((t : Trail) (k : Client) → AreTrail r.chain.crumbs.items t → SlotStands old t.entries k → hear_fault t.entries k.link ≡ Some f) → fault_by s (Hear c) ≡ Some f
+    → ((t : Trail) (k : Client) → AreTrail r.chain.crumbs.items t → SlotStands old t.entries k → hear_fault t.entries k.link ≡ Some f) → event_fault s (Hear c) ≡ Some f
 faults_hear r s c old f st h at m = m (trail s) (client s c) (trail_is r.chain s st.chain) (slot_at r s c old st h at)
 
 pub moves_step : (r r' : Run) (s : State) (c : ℕ) (old slot : Slot) (told : List Told) → RunStands r s → IsClient c → r'.chain ≡ r.chain → r'.time ≡ r.time → r'.slots.items ≡ set r.slots.items (c - 1) slot → old ≡ get_or r.slots.items (c - 1) old
@@ -351,7 +351,7 @@ moves_get r r' s c n old slot told st h chain time slots at m =
     }
 
 pub faults_get : (r : Run) (s : State) (c n : ℕ) (old : Slot) (f : IntakeFault) → RunStands r s → IsClient c → old ≡ get_or r.slots.items (c - 1) old
-    → ((es : List Entry) (k : Client) → list_all is_small_entry es ≡ true → length es < INPUT_BYTES → SlotStands old es k → get_fault es n k.link ≡ Some f) → fault_by s (Get c n) ≡ Some f
+    → ((es : List Entry) (k : Client) → list_all is_small_entry es ≡ true → length es < INPUT_BYTES → SlotStands old es k → get_fault es n k.link ≡ Some f) → event_fault s (Get c n) ≡ Some f
 faults_get r s c n old f st h at m =
     let a : AreTrail r.chain.crumbs.items (trail s) = trail_is r.chain s st.chain in
     m (book_of s) (client s c) a.texts a.few (slot_at r s c old st h at)

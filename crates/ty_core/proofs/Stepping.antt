@@ -232,14 +232,14 @@ module _ (now c : ℕ) (rb : RebuildHeld) (sv : SessionHeld) (es : List Entry) (
       let g = goes r left in
       subst (LinkOrOver rb (Some sv') es) (sym (ap (λ b. if b then None else Some (ping_link now k)) g.dropped)) (over_is rb sv sv' es k r l leaves, has_heard rb sv es k l)
 
-  told_by : (b : Bool) → option_to_list (reason_told c (if b then NoPong k.heard now else NoHello k.opened now)) ≡ (if b then ToldPong c k.heard now else ToldHello c k.opened now) ∷ []
-  told_by true = refl
-  told_by false = refl
+  event_told : (b : Bool) → option_to_list (reason_told c (if b then NoPong k.heard now else NoHello k.opened now)) ≡ (if b then ToldPong c k.heard now else ToldHello c k.opened now) ∷ []
+  event_told true = refl
+  event_told false = refl
 
   pub told_ticks_off : (r : Reason) → tick_reason now sv.stance ≡ Some r → option_to_list (reason_told c r) ≡ told_tick now c (Some k)
   told_ticks_off r left =
       let g = goes r left in
-      ap (λ x. option_to_list (reason_told c x)) g.which ∙ told_by k.has_joined ∙ sym (ap (λ b. if b then told_drop now c k ∷ [] else []) g.dropped)
+      ap (λ x. option_to_list (reason_told c x)) g.which ∙ event_told k.has_joined ∙ sym (ap (λ b. if b then told_drop now c k ∷ [] else []) g.dropped)
 
 pub ticks_absent : (now c : ℕ) (rb : RebuildHeld) (es : List Entry) (link : Option Connection) → LinkStands rb None es link → LinkOrOver rb None es (option_and_then (tick_link now) link)
 ticks_absent now c rb es None l = l

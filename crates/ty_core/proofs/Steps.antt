@@ -15,7 +15,7 @@ use Rattle.ty_wire.proofs.Whole.{whole-more, whole-front}
 use Rattle.ty_session.proofs.Marks.{marks-more}
 use Rattle.ty_session.specs.Story.{begun, pinged_at, closed, with_entry, given_up}
 use Rattle.ty_core.specs.declared.client.Connection.{Connection}
-use Rattle.ty_core.specs.Clients.{told, down, sent, unheard, opened_at, closed_link, next_link, came, got_with, get_link}
+use Rattle.ty_core.specs.Clients.{told, down, sent, unheard, new_link, closed_link, next_link, came, got_with, get_link}
 use Rattle.ty_core.specs.Links.{heard_before, story_by, story_of}
 
 abbrev hello : Msg
@@ -113,7 +113,7 @@ more-story p q k looked more e a o =
 
 -- ---- the beginning
 
-pub nothing-told : (p : List Entry) (now : ℕ) → told p (opened_at now) ≡ []
+pub nothing-told : (p : List Entry) (now : ℕ) → told p (new_link now) ≡ []
 unfolding messages_after
 nothing-told p now = refl
 
@@ -121,5 +121,5 @@ none-in : whole_in 0 [] ≡ []
 unfolding whole_in
 none-in = refl
 
-pub open-story : (p : List Entry) (now : ℕ) → story_of p now (opened_at now) ≡ begun now
-open-story p now = ap (λ (ms : List Msg). story_by [] (first_of 1 (hello ∷ pongs ms)) now (opened_at now)) (ap (whole_in 0) (nothing-told p now) ∙ none-in)
+pub open-story : (p : List Entry) (now : ℕ) → story_of p now (new_link now) ≡ begun now
+open-story p now = ap (λ (ms : List Msg). story_by [] (first_of 1 (hello ∷ pongs ms)) now (new_link now)) (ap (whole_in 0) (nothing-told p now) ∙ none-in)

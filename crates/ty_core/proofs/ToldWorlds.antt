@@ -15,8 +15,8 @@ use Rattle.ty_script.specs.declared.event.Event.TheVariants.{Line, Join, Step, G
 use Rattle.ty_core.specs.declared.told.Told.{Told}
 use Rattle.ty_core.specs.declared.told.Told.TheVariants.{Published, Ended, Joined, Pending, Waiting, TooSlow, Stepped, Rebuilt as AtEnd, NoHello, NoPong}
 use Rattle.ty_core.specs.Clients.{Trail, newest, time_of, is_joining, is_behind, is_too_slow, numbers_came, is_dropped}
-use Rattle.ty_core.specs.Run.{State, no_state, book_of, trail, client, link, lined, finished, after, fault_by, Happening, on, end, going, over, goes, run_from, run}
-use Rattle.ty_core.specs.Report.{shown, news, told_join, told_hear, told_step, told_ends, told_get, told_cut, told_tick, told_ticks, told_by, told_of, told_if_going, report_from, report}
+use Rattle.ty_core.specs.Run.{State, no_state, book_of, trail, client, link, lined, finished, next_state, event_fault, Happening, on, end, going, over, goes, run_from, run}
+use Rattle.ty_core.specs.Report.{world_shown, news, told_join, told_hear, told_step, told_ends, told_get, told_cut, told_tick, told_ticks, event_told, told_of, told_if_going, report_from, report}
 use Rattle.ty_core.specs.Interleavings.{AllCanHappen, IsScript, IsWorldOf, map_of, ShowsWorlds}
 use Rattle.ty_core.proofs.Chains.{shown_is}
 use Rattle.ty_core.proofs.Getting.{came_within}
@@ -53,14 +53,14 @@ all_append s (x ∷ xs) ys a b = (a.0, all_append s xs ys a.1 b)
 
 -- What one happening tells
 
-are_news : (s : State) (from k : ℕ) → from + k ≤ newest (trail s) + 1 → AreWorlds s (map (λ n. Published (shown s n)) (range_with_len from k))
+are_news : (s : State) (from k : ℕ) → from + k ≤ newest (trail s) + 1 → AreWorlds s (map (λ n. Published (world_shown s n)) (range_with_len from k))
 are_news s from zero h = tt
 are_news s from (suc k) h = ((refl, omega (arith, h)), are_news s (from + 1) k (omega (arith, h)))
 
 news_shown : (old new : State) → AreWorlds new (news old new)
 news_shown old new = by_len (newest (trail new) - newest (trail old)) refl
   where
-    by_len : (k : ℕ) → newest (trail new) - newest (trail old) ≡ k → AreWorlds new (map (λ n. Published (shown new n)) (range_with_len (newest (trail old) + 1) k))
+    by_len : (k : ℕ) → newest (trail new) - newest (trail old) ≡ k → AreWorlds new (map (λ n. Published (world_shown new n)) (range_with_len (newest (trail old) + 1) k))
     by_len zero e = tt
     by_len (suc k) e = are_news new (newest (trail old) + 1) (suc k) (omega (arith, e))
 
@@ -94,19 +94,19 @@ module _ (s : State) (c : ℕ) where
       by_tests true true true = (tt, tt)
       by_tests true true false = (tt, tt)
 
-  ends_shown : (ns : List ℕ) → AllByRecursion (λ m. m ≤ newest (trail s)) ns → AreWorlds s (map (λ m. AtEnd c (shown s m)) ns)
+  ends_shown : (ns : List ℕ) → AllByRecursion (λ m. m ≤ newest (trail s)) ns → AreWorlds s (map (λ m. AtEnd c (world_shown s m)) ns)
   ends_shown [] a = tt
   ends_shown (n ∷ ns) a = ((refl, a.0), ends_shown ns a.1)
 
-  held_shown : (held : Option ℕ) → IfSome held (λ n. n ≤ newest (trail s)) → IfSome (option_map (shown s) held) (IsWorldOf s)
+  held_shown : (held : Option ℕ) → IfSome held (λ n. n ≤ newest (trail s)) → IfSome (option_map (world_shown s) held) (IsWorldOf s)
   held_shown None h = tt
   held_shown (Some n) h = (refl, h)
 
-  ends_or_held : (held : Option ℕ) (ns : List ℕ) → IfSome held (λ n. n ≤ newest (trail s)) → AllByRecursion (λ m. m ≤ newest (trail s)) ns → AreWorlds s (told_ends (shown s) c held ns)
+  ends_or_held : (held : Option ℕ) (ns : List ℕ) → IfSome held (λ n. n ≤ newest (trail s)) → AllByRecursion (λ m. m ≤ newest (trail s)) ns → AreWorlds s (told_ends (world_shown s) c held ns)
   ends_or_held held [] h a = (held_shown held h, tt)
   ends_or_held held (n ∷ ns) h a = ends_shown (n ∷ ns) a
 
-  get_shown : (n : ℕ) (held : Option ℕ) (link : Option Connection) → IfSome held (λ n. n ≤ newest (trail s)) → IfReached (book_of s) link → AreWorlds s (told_get (shown s) (book_of s) c n held link)
+  get_shown : (n : ℕ) (held : Option ℕ) (link : Option Connection) → IfSome held (λ n. n ≤ newest (trail s)) → IfReached (book_of s) link → AreWorlds s (told_get (world_shown s) (book_of s) c n held link)
   get_shown n held None h r = (tt, tt)
   get_shown n held (Some k) h r = ends_or_held held (numbers_came (book_of s) k n) h (came_within (book_of s) k n r.connection)
 
@@ -125,24 +125,24 @@ ticks_shown s now c [] = tt
 ticks_shown s now c (x ∷ xs) = all_append s (told_tick now c x.link) (told_ticks now (c + 1) xs) (tick_shown s now c x.link) (ticks_shown s now (c + 1) xs)
 
 -- of the state behind it
-event_shown : (s : State) (e : Event) → IsFit s → AreWorlds (after s e) (told_by s e)
+event_shown : (s : State) (e : Event) → IsFit s → AreWorlds (next_state s e) (event_told s e)
 event_shown s (Line line) f = news_shown s (lined line s)
-event_shown s (Join c) f = join_shown (after s (Join c)) c (link s c)
-event_shown s (Step c) f = step_shown (after s (Step c)) c (trail s) s.now (link s c)
+event_shown s (Join c) f = join_shown (next_state s (Join c)) c (link s c)
+event_shown s (Step c) f = step_shown (next_state s (Step c)) c (trail s) s.now (link s c)
 event_shown s (Get c n) f =
     let x : IsFine (book_of s) (client s c) = client_fine s c f in
     get_shown s c n (client s c).held (link s c) x.held x.link
-event_shown s (Hear c) f = hear_shown (after s (Hear c)) c (newest (trail s)) (link s c)
-event_shown s (Cut c) f = cut_shown (after s (Cut c)) c (link s c)
-event_shown s (Tick ms) f = ticks_shown (after s (Tick ms)) (s.now + ms) 1 s.clients
+event_shown s (Hear c) f = hear_shown (next_state s (Hear c)) c (newest (trail s)) (link s c)
+event_shown s (Cut c) f = cut_shown (next_state s (Cut c)) c (link s c)
+event_shown s (Tick ms) f = ticks_shown (next_state s (Tick ms)) (s.now + ms) 1 s.clients
 
 end_shown : (s : State) → AreWorlds (finished s) (told_of (going s) end)
 end_shown s = all_append (finished s) (news s (finished s)) (Ended (newest (trail (finished s))) ∷ []) (news_shown s (finished s)) (tt, tt)
 
 happening_shown : (s s' : State) (h : Happening) → IsFit s → goes (going s) h ≡ going s' → AreWorlds s' (told_of (going s) h)
 happening_shown s s' (on e) f g =
-    let P : State → Type 0 = λ t. AreWorlds t (told_by s e) in
-    subst P (went_on (fault_by s e) (after s e) s' g).1 (event_shown s e f)
+    let P : State → Type 0 = λ t. AreWorlds t (event_told s e) in
+    subst P (went_on (event_fault s e) (next_state s e) s' g).1 (event_shown s e f)
 happening_shown s s' end f g =
     let P : State → Type 0 = λ t. AreWorlds t (told_of (going s) end) in
     subst P (ap (λ r. state_of r s) g) (end_shown s)
@@ -171,7 +171,7 @@ comes [] s s' f c e =
 comes (h ∷ hs) s s' f c e =
     elim (goes (going s) h) as (λ r. goes (going s) h ≡ r → AllCanHappen r hs → run_from r hs ≡ going s' → Comes s s' (told_if_going r (told_of (going s) h) ++ report_from r hs)) [
       | going t ↦ λ g a x.
-          let l : Leads s t = behind s t h f c.0 g in
+          let l : Leads s t = next_state s t h f c.0 g in
           let rest : Comes t s' (report_from (going t) hs) = comes hs t s' l.fit a x in
           record {
             fit = rest.fit;

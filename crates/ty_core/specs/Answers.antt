@@ -19,10 +19,10 @@ abbrev pub OnFault : {A : Type 0} → Result A WorldFault → Type 0 → Type 0
 OnFault r P = IfFeedFault r (λ f. P)
 
 -- the answer is want of memory
-abbrev pub IsShort : {A : Type 0} → Result A WorldFault → Type 0
-IsShort (Ok a) = ⊥
-IsShort (Err (Feed f)) = ⊥
-IsShort (Err NoMemory) = ⊤
+abbrev pub WantsMemory : {A : Type 0} → Result A WorldFault → Type 0
+WantsMemory (Ok a) = ⊥
+WantsMemory (Err (Feed f)) = ⊥
+WantsMemory (Err NoMemory) = ⊤
 
 -- no fault has ended the run
 abbrev pub IsGoing : Ran → Type 0

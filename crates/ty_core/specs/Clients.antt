@@ -52,8 +52,8 @@ unheard es k = drop (length (sent es k) - k.up) (sent es k)
 
 -- Opening
 
-abbrev pub opened_at : ℕ → Connection
-opened_at now = record {
+abbrev pub new_link : ℕ → Connection
+new_link now = record {
   opened = now;
   heard = now;
   joined = 0;
@@ -66,7 +66,7 @@ opened_at now = record {
 }
 
 abbrev pub join_link : ℕ → Option Connection → Option Connection
-join_link now None = Some (opened_at now)
+join_link now None = Some (new_link now)
 join_link now (Some k) = Some k
 
 -- Hearing
@@ -98,18 +98,18 @@ hear_link newest now k =
 -- Stepping
 
 -- a breadcrumb was offered whose end isn't queued
-abbrev pub is_holding : Connection → Bool
-is_holding k = nat_lt (end_after 0 k.marks) k.offered
+abbrev pub has_ungrouped : Connection → Bool
+has_ungrouped k = nat_lt (end_after 0 k.marks) k.offered
 
 -- the deltas behind the last crumb end that is queued
-abbrev pub held_deltas : List Entry → Connection → List Delta
-held_deltas es k = deltas_between es (end_after 0 k.marks) k.offered
+abbrev pub ungrouped_deltas : List Entry → Connection → List Delta
+ungrouped_deltas es k = deltas_between es (end_after 0 k.marks) k.offered
 
 abbrev pub closed_link : Connection → Connection
 closed_link k = record k { marks = k.marks ++ group k.offered ∷ [] }
 
 abbrev pub idle_link : Connection → Connection
-idle_link k = cond (is_holding k) (closed_link k) k
+idle_link k = cond (has_ungrouped k) (closed_link k) k
 
 abbrev pub next_link : Connection → Connection
 next_link k = record k { offered = k.offered + 1 }
@@ -117,7 +117,7 @@ next_link k = record k { offered = k.offered + 1 }
 -- behind the breadcrumb that was offered now
 abbrev pub grouped_link : Trail → ℕ → Connection → Connection
 grouped_link p now k =
-    cond (closes_group (time_of p k.offered) now (length (held_deltas p.entries k))) (closed_link k) k
+    cond (closes_group (time_of p k.offered) now (length (ungrouped_deltas p.entries k))) (closed_link k) k
 
 abbrev pub is_behind : Trail → Connection → Bool
 is_behind p k = nat_lt k.offered (newest p)

@@ -5,7 +5,7 @@ use Rattle.ty_wire.specs.Talk.{Rise}
 use Rattle.ty_client.specs.Rebuilt.{Rebuilt}
 use Rattle.ty_core.specs.Clients.{newest}
 use Rattle.ty_core.specs.Run.{State, trail, Happening, on, end, Ran, going, over, goes, no_state}
-use Rattle.ty_core.specs.Report.{shown}
+use Rattle.ty_core.specs.Report.{world_shown}
 use Rattle.ty_script.specs.Fits.{IsEvent}
 use Rattle.ty_core.specs.declared.told.Told.{Told}
 use Rattle.ty_core.specs.declared.told.Told.TheVariants.{Published, Rebuilt as AtEnd, Still}
@@ -30,7 +30,7 @@ IsScript hs = AllCanHappen (going no_state) hs
 
 -- the map is the world of its number, a breadcrumb that is there
 abbrev pub IsWorldOf : State → Rebuilt → Type 0
-IsWorldOf s a = (a ≡ shown s a.number) × (a.number ≤ newest (trail s))
+IsWorldOf s a = (a ≡ world_shown s a.number) × (a.number ≤ newest (trail s))
 
 -- the map that is told, if one is
 abbrev pub map_of : Told → Option Rebuilt

@@ -3,7 +3,7 @@ use Rattle.ty_marks.specs.Marks.{Mark, start, group, ping}
 use Rattle.ty_core.specs.declared.client.Mark.{Mark as Kept}
 use Rattle.ty_core.specs.declared.client.Mark.TheVariants.{Start, Group, Ping}
 
-abbrev pub mark_of : Kept → Mark
-mark_of (Start n) = start n
-mark_of (Group n) = group n
-mark_of (Ping ts) = ping ts
+abbrev pub the_mark : Kept → Mark
+the_mark (Start n) = start n
+the_mark (Group n) = group n
+the_mark (Ping ts) = ping ts

@@ -6,7 +6,7 @@ use Rattle.ty_base.specs.declared.entry.Entry.{Entry}
 use Rattle.ty_client.specs.Rebuilt.{Rebuilt}
 use Rattle.ty_client.specs.Worlds.{rebuilt_world}
 use Rattle.ty_core.specs.Clients.{Trail, newest, time_of, is_joining, is_behind, is_too_slow, numbers_came, is_dropped}
-use Rattle.ty_core.specs.Run.{State, items, book_of, trail, client, link, lined, finished, Happening, on, end, Ran, going, over, goes, no_state}
+use Rattle.ty_core.specs.Run.{State, feed_items, book_of, trail, client, link, lined, finished, Happening, on, end, Ran, going, over, goes, no_state}
 use Rattle.ty_core.specs.declared.client.Client.{Client}
 use Rattle.ty_core.specs.declared.client.Connection.{Connection}
 use Rattle.ty_script.specs.declared.event.Event.{Event}
@@ -15,13 +15,13 @@ use Rattle.ty_core.specs.declared.told.Told.{Told}
 use Rattle.ty_core.specs.declared.told.Told.TheVariants.{Published, Ended, Opened, Present, Heard, Joined, Stepped, Pending, Waiting, TooSlow, Rebuilt as AtEnd, Still, Lost, NoHello, NoPong, Absent}
 
 -- breadcrumb n
-abbrev pub shown : State → ℕ → Rebuilt
-shown s n = rebuilt_world s.feed.ended (items s) n
+abbrev pub world_shown : State → ℕ → Rebuilt
+world_shown s n = rebuilt_world s.feed.ended (feed_items s) n
 
 -- the breadcrumbs that weren't there before
 abbrev pub news : State → State → List Told
 news old new =
-    map (λ n. Published (shown new n)) (range_with_len (newest (trail old) + 1) (newest (trail new) - newest (trail old)))
+    map (λ n. Published (world_shown new n)) (range_with_len (newest (trail old) + 1) (newest (trail new) - newest (trail old)))
 
 abbrev pub told_join : ℕ → Option Connection → List Told
 told_join c None = Opened c ∷ []
@@ -63,20 +63,20 @@ unfoldable pub told_ticks : ℕ → ℕ → List Client → List Told
 told_ticks now c [] = []
 told_ticks now c (x ∷ xs) = told_tick now c x.link ++ told_ticks now (c + 1) xs
 
-abbrev pub told_by : State → Event → List Told
-told_by s (Line line) = news s (lined line s)
-told_by s (Join c) = told_join c (link s c)
-told_by s (Hear c) = told_hear (newest (trail s)) c (link s c)
-told_by s (Step c) = told_step (trail s) s.now c (link s c)
-told_by s (Get c n) = told_get (shown s) (book_of s) c n (client s c).held (link s c)
-told_by s (Cut c) = told_cut c (link s c)
-told_by s (Tick ms) = told_ticks (s.now + ms) 1 s.clients
+abbrev pub event_told : State → Event → List Told
+event_told s (Line line) = news s (lined line s)
+event_told s (Join c) = told_join c (link s c)
+event_told s (Hear c) = told_hear (newest (trail s)) c (link s c)
+event_told s (Step c) = told_step (trail s) s.now c (link s c)
+event_told s (Get c n) = told_get (world_shown s) (book_of s) c n (client s c).held (link s c)
+event_told s (Cut c) = told_cut c (link s c)
+event_told s (Tick ms) = told_ticks (s.now + ms) 1 s.clients
 
 abbrev pub told_end : State → List Told
 told_end s = news s (finished s) ++ Ended (newest (trail (finished s))) ∷ []
 
 abbrev pub told_of : Ran → Happening → List Told
-told_of (going s) (on e) = told_by s e
+told_of (going s) (on e) = event_told s e
 told_of (going s) end = told_end s
 told_of (over f) h = []
 

@@ -32,11 +32,11 @@ no_state = record {
   clients = replicate CLIENTS no_client;
 }
 
-abbrev pub items : State → List Item
-items s = items_of s.feed
+abbrev pub feed_items : State → List Item
+feed_items s = items_of s.feed
 
 abbrev pub book_of : State → List Entry
-book_of s = book s.feed.ended (items s)
+book_of s = book s.feed.ended (feed_items s)
 
 abbrev pub trail : State → Trail
 trail s = record { entries = book_of s; times = s.times }
@@ -69,17 +69,17 @@ with_link s c new = with_client s c (record (client s c) { link = new })
 abbrev pub tick_client : ℕ → Client → Client
 tick_client now c = record c { link = option_and_then (tick_link now) c.link }
 
-abbrev pub ticked : ℕ → State → State
-ticked ms s = record s { now = s.now + ms; clients = map (tick_client (s.now + ms)) s.clients }
+abbrev pub behind_tick : ℕ → State → State
+behind_tick ms s = record s { now = s.now + ms; clients = map (tick_client (s.now + ms)) s.clients }
 
-abbrev pub after : State → Event → State
-after s (Line line) = lined line s
-after s (Join c) = with_link s c (join_link s.now (link s c))
-after s (Hear c) = with_link s c (option_map (hear_link (newest (trail s)) s.now) (link s c))
-after s (Step c) = with_link s c (option_and_then (step_link (trail s) s.now) (link s c))
-after s (Get c n) = with_client s c (get_client (book_of s) n (client s c).held (link s c))
-after s (Cut c) = with_link s c None
-after s (Tick ms) = ticked ms s
+abbrev pub next_state : State → Event → State
+next_state s (Line line) = lined line s
+next_state s (Join c) = with_link s c (join_link s.now (link s c))
+next_state s (Hear c) = with_link s c (option_map (hear_link (newest (trail s)) s.now) (link s c))
+next_state s (Step c) = with_link s c (option_and_then (step_link (trail s) s.now) (link s c))
+next_state s (Get c n) = with_client s c (get_client (book_of s) n (client s c).held (link s c))
+next_state s (Cut c) = with_link s c None
+next_state s (Tick ms) = behind_tick ms s
 
 -- Faults
 
@@ -95,14 +95,14 @@ abbrev pub hear_fault : List Entry → Option Connection → Option IntakeFault
 hear_fault es None = None
 hear_fault es (Some k) = too_much_if (is_heard k && nat_le INPUT_BYTES (length (frames (sent es k))))
 
-abbrev pub fault_by : State → Event → Option IntakeFault
-fault_by s (Line line) = feed_fault (lined line s).feed
-fault_by s (Hear c) = hear_fault (book_of s) (link s c)
-fault_by s (Get c n) = get_fault (book_of s) n (link s c)
-fault_by s (Join c) = None
-fault_by s (Step c) = None
-fault_by s (Cut c) = None
-fault_by s (Tick ms) = None
+abbrev pub event_fault : State → Event → Option IntakeFault
+event_fault s (Line line) = feed_fault (lined line s).feed
+event_fault s (Hear c) = hear_fault (book_of s) (link s c)
+event_fault s (Get c n) = get_fault (book_of s) n (link s c)
+event_fault s (Join c) = None
+event_fault s (Step c) = None
+event_fault s (Cut c) = None
+event_fault s (Tick ms) = None
 
 -- The run
 
@@ -121,7 +121,7 @@ went None s = going s
 went (Some f) s = over f
 
 abbrev pub goes : Ran → Happening → Ran
-goes (going s) (on e) = went (fault_by s e) (after s e)
+goes (going s) (on e) = went (event_fault s e) (next_state s e)
 goes (going s) end = going (finished s)
 goes (over f) h = over f
 

@@ -46,16 +46,16 @@ pub struct Marks {
 impl Model for Marks {
     ghost use Rattle.std.specs.Prelude.{List, map};
     ghost use Rattle.ty_marks.specs.Marks.{Mark as TheMark};
-    ghost use Rattle.ty_core.specs.Marked.{mark_of};
+    ghost use Rattle.ty_core.specs.Marked.{the_mark};
 
     ghost Value = { List TheMark };
 
-    ghost view = { λ m. map mark_of m.list.items };
+    ghost view = { λ m. map the_mark m.list.items };
 }
 
 impl Marks {
     ghost use Rattle.std.specs.Prelude.{◌≡◌, [], ◌∷◌, ◌++◌, map, OnOk, OnErr};
-    ghost use Rattle.ty_core.specs.Marked.{mark_of};
+    ghost use Rattle.ty_core.specs.Marked.{the_mark};
 
     /// The empty list.
     pub fn new(alloc: Global) -> Marks
@@ -68,14 +68,14 @@ impl Marks {
 
     /// All of them, in order.
     pub fn as_slice(&self) -> &[Mark]
-        ensures { map mark_of result.now ≡ self.now }
+        ensures { map the_mark result.now ≡ self.now }
     {
         &self.list
     }
 
     /// Adds one at the end. Want of memory leaves the list as it was.
     pub fn push(&mut self, mark: Mark) -> Result<(), NoMemory>
-        ensures ok { OnOk result (self.new ≡ self.old ++ mark_of mark ∷ []) }
+        ensures ok { OnOk result (self.new ≡ self.old ++ the_mark mark ∷ []) }
         ensures err { OnErr result (self.new ≡ self.old) }
     {
         self.list.push(mark)?;

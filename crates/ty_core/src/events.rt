@@ -6,8 +6,8 @@ ghost use Rattle.ty_intake.specs.Faults.{feed_fault};
 ghost use Rattle.ty_core.specs.Answers.{IfFeedFault};
 ghost use Rattle.ty_core.specs.Clients.{down, no_client};
 ghost use Rattle.ty_core.specs.declared.client.Client.{Client};
-ghost use Rattle.ty_core.specs.Run.{State, no_state, finished, lined, fault_by, book_of, client, link, tick_client};
-ghost use Rattle.ty_core.specs.Report.{told_end, told_ticks, shown};
+ghost use Rattle.ty_core.specs.Run.{State, no_state, finished, lined, event_fault, book_of, client, link, tick_client};
+ghost use Rattle.ty_core.specs.Report.{told_end, told_ticks, world_shown};
 ghost use Rattle.ty_core.specs.Held.{RunStands};
 ghost use Rattle.ty_script.specs.Fits.{IsEvent, IsClient};
 ghost use Rattle.ty_core.specs.steps.Runs.{HasState, RunMoves, SlotsStand, AreTicking};
@@ -41,7 +41,7 @@ impl Run {
         ensures moves { IfOk result (λ told. (s : State) → RunStands self.old s
             → RunMoves self.new s e.now told.items) }
         ensures fault { IfFeedFault result (λ f. (s : State) → RunStands self.old s
-            → fault_by s e.now ≡ Some f) }
+            → event_fault s e.now ≡ Some f) }
     {
         match e {
             Event::Line(line) => self.line(alloc, line),
@@ -93,7 +93,7 @@ impl Run {
         ensures moves { IfOk result (λ told. (s : State) → RunStands self.old s
             → RunMoves self.new s (Event.Hear c) told.items) }
         ensures fault { IfFeedFault result (λ f. (s : State) → RunStands self.old s
-            → fault_by s (Event.Hear c) ≡ Some f) }
+            → event_fault s (Event.Hear c) ≡ Some f) }
     {
         let slot = &mut self.slots[c as usize - 1];
         hear(alloc, &self.chain, slot, c, self.time)
@@ -115,7 +115,7 @@ impl Run {
         ensures moves { IfOk result (λ told. (s : State) → RunStands self.old s
             → RunMoves self.new s (Event.Get c n) told.items) }
         ensures fault { IfFeedFault result (λ f. (s : State) → RunStands self.old s
-            → fault_by s (Event.Get c n) ≡ Some f) }
+            → event_fault s (Event.Get c n) ≡ Some f) }
     {
         let slot = &mut self.slots[c as usize - 1];
         get(alloc, slot, c, n)
@@ -162,7 +162,7 @@ impl Run {
     pub(crate) fn held(&self, c: u64) -> Option<&At>
         requires { IsClient c }
         ensures { (s : State) → RunStands self.now s
-            → option_copied result ≡ option_map (shown s) (client s c).held }
+            → option_copied result ≡ option_map (world_shown s) (client s c).held }
     {
         self.slots[c as usize - 1].held()
     }

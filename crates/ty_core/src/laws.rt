@@ -7,7 +7,7 @@ ghost use Rattle.ty_client.specs.Heard.{Hears};
 ghost use Rattle.ty_client.specs.Rebuilt.{Rebuilt, ats};
 ghost use Rattle.ty_core.specs.Clients.{newest, down};
 ghost use Rattle.ty_core.specs.Run.{State, Happening, going, run, book_of, trail, client, link};
-ghost use Rattle.ty_core.specs.Report.{report, shown};
+ghost use Rattle.ty_core.specs.Report.{report, world_shown};
 ghost use Rattle.ty_script.specs.Fits.{IsClient};
 ghost use Rattle.ty_core.specs.Interleavings.{IsScript, IsWorldOf, ShowsWorlds, AreRising};
 ghost use Rattle.ty_core.specs.declared.client.Connection.{Connection};
@@ -23,7 +23,7 @@ pub fn clients_rebuild_the_worlds()
     ensures received { (hs : List Happening) (s : State) (c : ℕ) (k : Connection) (bytes more : List ℕ)
         → IsScript hs → run hs ≡ going s → IsClient c → link s c ≡ Some k
         → bytes ++ more ≡ down (book_of s) k → length bytes < INPUT_BYTES
-        → (ms : List Msg) × (ns : List ℕ) × Hears bytes ms None × (ats ms ≡ map (shown s) ns)
+        → (ms : List Msg) × (ns : List ℕ) × Hears bytes ms None × (ats ms ≡ map (world_shown s) ns)
         × AreRising ns (newest (trail s)) }
     ensures held { (hs : List Happening) (s : State) (c n : ℕ) → IsScript hs → run hs ≡ going s → IsClient c
         → (client s c).held ≡ Some n → n ≤ newest (trail s) }

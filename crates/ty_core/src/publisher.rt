@@ -10,10 +10,10 @@ ghost use Rattle.ty_crumb.specs.Crumbs.{world_of};
 ghost use Rattle.ty_intake.specs.Faults.{feed_fault};
 ghost use Rattle.ty_intake.specs.Batches.{joined};
 ghost use Rattle.ty_client.specs.Worlds.{numbered, rebuilt_after};
-ghost use Rattle.ty_core.specs.Answers.{IfFeedFault, IsShort};
+ghost use Rattle.ty_core.specs.Answers.{IfFeedFault, WantsMemory};
 ghost use Rattle.ty_core.specs.Run.{State, no_state, lined, finished};
 ghost use Rattle.ty_core.specs.Held.{AreCrumbs, LastWithin, ChainStands};
-ghost use Rattle.ty_core.specs.steps.Chains.{CrumbsOf, Owed, ArePublished, HasChain, ChainMoved};
+ghost use Rattle.ty_core.specs.steps.Chains.{CrumbsOf, AreOwed, ArePublished, HasChain, ChainMoved};
 
 use crate::chain::Chain;
 use crate::fault::WorldFault;
@@ -109,7 +109,7 @@ impl Chain {
 fn go_on(fault: Option<IntakeFault>) -> Result<(), WorldFault>
     ensures none { OnOk result (fault ≡ None) }
     ensures some { IfFeedFault result (λ f. fault ≡ Some f) }
-    ensures long { IsShort result → ⊥ }
+    ensures long { WantsMemory result → ⊥ }
 {
     match fault {
         None => Ok(()),
@@ -144,9 +144,9 @@ fn publish_all(
     crumbs: &mut Vec<Crumb>,
     now: u64,
 ) -> Result<(), NoMemory>
-    requires { Owed crumbs.old.items closed.now }
+    requires { AreOwed crumbs.old.items closed.now }
     ensures more { length crumbs.old.items ≤ length crumbs.new.items }
-    ensures ok { OnOk result ((o : Owed crumbs.old.items closed.now)
+    ensures ok { OnOk result ((o : AreOwed crumbs.old.items closed.now)
         → ArePublished crumbs.old.items crumbs.new.items now (joined o.done) (joined (o.done ++ closed.now))) }
 {
     for batch in closed {

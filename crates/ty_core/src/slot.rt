@@ -9,11 +9,11 @@ ghost use Rattle.ty_client.specs.Rebuilt.{last_held};
 ghost use Rattle.ty_client.specs.Worlds.{rebuilt_after};
 ghost use Rattle.ty_core.specs.declared.client.Client.{Client};
 ghost use Rattle.ty_core.specs.declared.client.Connection.{Connection};
-ghost use Rattle.ty_core.specs.Clients.{Trail, newest, opened_at, join_link, hear_link as link_heard, step_link as link_stepped, tick_link as link_ticked, got_with};
+ghost use Rattle.ty_core.specs.Clients.{Trail, newest, new_link, join_link, hear_link as link_heard, step_link as link_stepped, tick_link as link_ticked, got_with};
 ghost use Rattle.ty_core.specs.Answers.{IfFeedFault};
 ghost use Rattle.ty_core.specs.Run.{tick_client, hear_fault, get_fault};
 ghost use Rattle.ty_core.specs.Report.{told_join, told_hear, told_step, told_cut, told_tick};
-ghost use Rattle.ty_core.specs.steps.Links.{IsHeard, IsDelivered};
+ghost use Rattle.ty_core.specs.steps.Links.{AllIsHeard, IsDelivered};
 ghost use Rattle.ty_core.specs.Links.{IsLink};
 ghost use Rattle.ty_core.specs.Held.{HasHeard, IsLinked, LinkStands, SlotStands};
 ghost use Rattle.ty_core.specs.steps.Slots.{AreTrail, LinkOrOver, SlotMoves, SlotGets, LinkGets, LinkHears, is_greeted_phase, is_joined_phase, is_over_session, ends_or_still, reason_told};
@@ -80,7 +80,7 @@ pub(crate) fn join(alloc: Global, slot: &mut Slot, c: u64, now: u64) -> Result<V
 // A new connection, of which the client has said its hello.
 fn open(alloc: Global, rebuild: &mut Rebuild, now: u64) -> Result<Session, NoMemory>
     ensures link { IfOk result (λ s. (es : List Entry) → HasHeard rebuild.old
-        → IsLinked rebuild.new s es (opened_at now)) }
+        → IsLinked rebuild.new s es (new_link now)) }
     ensures held { rebuild.new.held ≡ rebuild.old.held }
 {
     let host = Text::of(alloc, "follower")?;
@@ -154,7 +154,7 @@ fn welcome(
     count: u64,
 ) -> Result<Vec<Told>, NoMemory>
     ensures { IfOk result (λ told. (rebuild : RebuildHeld) (t : Trail) (k : Connection) (before : List (List ℕ))
-        → AreTrail chain.now.crumbs.items t → IsHeard rebuild session.old t.entries now k before count
+        → AreTrail chain.now.crumbs.items t → AllIsHeard rebuild session.old t.entries now k before count
         → LinkHears rebuild session.new t.entries k now c told.items) }
 {
     if !is_greeted(session) {
@@ -181,7 +181,7 @@ fn hear_all(
     ensures heard { IfOk result (λ count. (es : List Entry) (k : Connection) (before : List (List ℕ))
         → list_all is_small_entry es ≡ true → length es < INPUT_BYTES
         → IsLink rebuild.old session.old es k before
-        → IsHeard rebuild.new session.new es now k before count) }
+        → AllIsHeard rebuild.new session.new es now k before count) }
     ensures fault { IfFeedFault result (λ f. (es : List Entry) (k : Connection) (before : List (List ℕ))
         → list_all is_small_entry es ≡ true → length es < INPUT_BYTES
         → IsLink rebuild.old session.old es k before → hear_fault es (Some k) ≡ Some f) }

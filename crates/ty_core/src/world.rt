@@ -2,12 +2,12 @@
 ghost use Rattle.std.specs.Prelude.{◌≡◌, ◌++◌, ◌∷◌, [], List, ℕ, Some, true, option_copied, option_map, drop, IfOk, OnOk};
 ghost use Rattle.ty_crumb.specs.Crumbs.{CrumbStands};
 ghost use Rattle.ty_core.specs.Clients.{down};
-ghost use Rattle.ty_core.specs.Run.{Happening, on, end, State, going, over, run, book_of, client, link, fault_by};
-ghost use Rattle.ty_core.specs.Report.{report, shown};
+ghost use Rattle.ty_core.specs.Run.{Happening, on, end, State, going, over, run, book_of, client, link, event_fault};
+ghost use Rattle.ty_core.specs.Report.{report, world_shown};
 ghost use Rattle.ty_core.specs.Text.{report_text as text_of};
 ghost use Rattle.ty_core.specs.Held.{RunStands, WorldStands};
 ghost use Rattle.ty_script.specs.Fits.{IsEvent, IsClient};
-ghost use Rattle.ty_core.specs.Answers.{IfFeedFault, IsGoing, OnFault, IsShort};
+ghost use Rattle.ty_core.specs.Answers.{IfFeedFault, IsGoing, OnFault, WantsMemory};
 ghost use Rattle.ty_core.specs.steps.Runs.{HasState, RunTells, RunEnds};
 
 use crate::fault::WorldFault;
@@ -75,8 +75,8 @@ impl World {
             → run (hs ++ on e.now ∷ []) ≡ over f) }
         ensures faulty { OnFault result ((hs : List Happening) → WorldStands self.old hs
             → WorldStands self.new (hs ++ on e.now ∷ [])) }
-        ensures short { IsShort result → self.new.spent ≡ true }
-        ensures spent { self.old.spent ≡ true → IsShort result }
+        ensures short { WantsMemory result → self.new.spent ≡ true }
+        ensures spent { self.old.spent ≡ true → WantsMemory result }
     {
         if self.spent {
             return Err(WorldFault::NoMemory);
@@ -106,8 +106,8 @@ impl World {
         ensures tells { IfOk result (λ out. (hs : List Happening) → WorldStands self.old hs
             → text_of (report (hs ++ end ∷ [])) ≡ text_of (report hs) ++ out.text) }
         ensures fault { IfFeedFault result (λ f. self.old.fault ≡ Some f) }
-        ensures short { IsShort result → self.new.spent ≡ true }
-        ensures spent { self.old.spent ≡ true → IsShort result }
+        ensures short { WantsMemory result → self.new.spent ≡ true }
+        ensures spent { self.old.spent ≡ true → WantsMemory result }
     {
         if self.spent {
             return Err(WorldFault::NoMemory);
@@ -154,7 +154,7 @@ impl World {
     pub fn held(&self, c: u64) -> Option<&At>
         requires { IsClient c }
         ensures { (hs : List Happening) (s : State) → WorldStands self.now hs → run hs ≡ going s
-            → option_copied result ≡ option_map (shown s) (client s c).held }
+            → option_copied result ≡ option_map (world_shown s) (client s c).held }
     {
         self.run.held(c)
     }
@@ -166,7 +166,7 @@ fn tell(alloc: Global, run: &mut Run, e: &Event) -> Result<Text, WorldFault>
     ensures tells { IfOk result (λ text. (s : State) → RunStands run.old s
         → RunTells run.new s e.now text) }
     ensures fault { IfFeedFault result (λ f. (s : State) → RunStands run.old s
-        → fault_by s e.now ≡ Some f) }
+        → event_fault s e.now ≡ Some f) }
 {
     let told = run.event(alloc, e)?;
     Ok(report_text(alloc, &told)?)

@@ -20,7 +20,7 @@ pub record CrumbsOf (crumbs : List Crumb) (items : List Item) : Type 0 where
   pub cut : LastWithin crumbs (length items)
 
 -- the batches are the last ones of a list of items, behind those that the breadcrumbs stand for
-pub record Owed (crumbs : List Crumb) (closed : List Closed) : Type 0 where
+pub record AreOwed (crumbs : List Crumb) (closed : List Closed) : Type 0 where
   pub ended : Bool
   pub items : List Item
   pub done : List Closed

@@ -20,7 +20,7 @@ use Rattle.ty_core.specs.Links.{story_of, IsConnection, IsLink}
 
 -- the client stands for the longer bytes without a fault, what was rebuilt is the worlds of the crumb ends that came, and a
 -- pong is queued for each ping that came
-pub record IsFed (new old : RebuildHeld) (before : List (List ℕ)) (bytes : List ℕ) (messages : List Msg) (entries : List Entry) (came : List Msg) (at_ends : List Rebuilt) : Type 0 where
+pub record IsPieceDelivered (new old : RebuildHeld) (before : List (List ℕ)) (bytes : List ℕ) (messages : List Msg) (entries : List Entry) (came : List Msg) (at_ends : List Rebuilt) : Type 0 where
   pub stands : RebuildStands new before bytes messages
   pub no_fault : new.fault ≡ None
   pub at_ends_are : at_ends ≡ map (rebuilt_after entries) (filter_map told_number came)
@@ -33,7 +33,7 @@ pub record IsDelivered (rebuild : RebuildHeld) (session : SessionHeld) (es : Lis
   pub at_ends_are : at_ends ≡ map (rebuilt_after es) (numbers_came es k n)
 
 -- all that was on its way up was heard, and the session has to join where it wasn't
-pub record IsHeard (rebuild : RebuildHeld) (session : SessionHeld) (es : List Entry) (now : ℕ) (k : Connection) (before : List (List ℕ)) (count : ℕ) : Type 0 where
+pub record AllIsHeard (rebuild : RebuildHeld) (session : SessionHeld) (es : List Entry) (now : ℕ) (k : Connection) (before : List (List ℕ)) (count : ℕ) : Type 0 where
   pub connection : IsConnection es k
   pub looked : ℕ
   pub count_is : count ≡ k.up

@@ -6,8 +6,8 @@ use Rattle.ty_script.specs.declared.event.Event.{Event}
 use Rattle.ty_core.specs.declared.run.Run.{Run}
 use Rattle.ty_core.specs.declared.slot.Slot.{Slot}
 use Rattle.ty_core.specs.declared.told.Told.{Told}
-use Rattle.ty_core.specs.Run.{State, after, finished, fault_by, tick_client}
-use Rattle.ty_core.specs.Report.{told_by, told_end, told_ticks}
+use Rattle.ty_core.specs.Run.{State, next_state, finished, event_fault, tick_client}
+use Rattle.ty_core.specs.Report.{event_told, told_end, told_ticks}
 use Rattle.ty_core.specs.Text.{report_text}
 use Rattle.ty_core.specs.Held.{RunStands, SlotStands}
 
@@ -17,9 +17,9 @@ HasState r = (s : State) × RunStands r s
 
 -- the event brings no fault, the run stands for the state behind it, and this was told
 pub record RunMoves (r : Run) (s : State) (e : Event) (told : List Told) : Type 0 where
-  pub stands : RunStands r (after s e)
-  pub good : fault_by s e ≡ None
-  pub told_is : told ≡ told_by s e
+  pub stands : RunStands r (next_state s e)
+  pub good : event_fault s e ≡ None
+  pub told_is : told ≡ event_told s e
 
 -- place for place
 abbrev pub SlotsStand : List Slot → List Entry → List Client → Type 0
@@ -27,9 +27,9 @@ SlotsStand slots es clients = (i : ℕ) (slot : Slot) (c : Client) → slice_get
 
 -- with the lines that are told
 pub record RunTells (r : Run) (s : State) (e : Event) (text : List ℕ) : Type 0 where
-  pub stands : RunStands r (after s e)
-  pub good : fault_by s e ≡ None
-  pub text_is : text ≡ report_text (told_by s e)
+  pub stands : RunStands r (next_state s e)
+  pub good : event_fault s e ≡ None
+  pub text_is : text ≡ report_text (event_told s e)
 
 pub record RunEnds (r : Run) (s : State) (text : List ℕ) : Type 0 where
   pub stands : RunStands r (finished s)

@@ -4,7 +4,7 @@ use Rattle.std.specs.Prelude.{Option}
 use Rattle.ty_core.specs.declared.client.Connection.{Connection}
 use Rattle.ty_core.specs.Clients.{newest}
 use Rattle.ty_core.specs.Run.{trail, book_of}
-use Rattle.ty_core.specs.Report.{shown}
+use Rattle.ty_core.specs.Report.{world_shown}
 use Rattle.ty_core.proofs.Reached.{IfReached}
 use Rattle.ty_core.proofs.LaterStates.{client_fine}
 use Rattle.ty_core.proofs.ToldWorlds.{comes_all}
@@ -20,5 +20,5 @@ returns v = record {
   held = λ hs s c n script is one at.
       let P : Option ℕ → Type 0 = λ o. IfSome o (λ m. m ≤ newest (trail s)) in
       subst P at (client_fine s c (comes_all hs s script is).fit).held;
-  equal = λ s a b x y e. x.0 ∙ ap (shown s) e ∙ sym y.0;
+  equal = λ s a b x y e. x.0 ∙ ap (world_shown s) e ∙ sym y.0;
 }

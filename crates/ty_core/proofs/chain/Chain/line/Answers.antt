@@ -1,7 +1,7 @@
 use Rattle.std.proofs.Common.{List, subst, sym, ◌∙◌}
 use Rattle.ty_intake.specs.Lines.{fed_with}
 use Rattle.ty_intake.specs.declared.batch.Closed.{Closed}
-use Rattle.ty_core.specs.steps.Chains.{Owed}
+use Rattle.ty_core.specs.steps.Chains.{AreOwed}
 use Rattle.ty_core.proofs.Chains.{owed, moved_line}
 use Rattle.ty_core.proofs.chain.Chain.line.Goals as goal
 
@@ -9,7 +9,7 @@ pub publish_all-requires : goal.publish_all-requires
 publish_all-requires c =
     let s = c.requires.0 in
     let st = c.requires.1 in
-    let P : List Closed → Type 0 = Owed c.args.self.now.crumbs.items in
+    let P : List Closed → Type 0 = AreOwed c.args.self.now.crumbs.items in
     subst P (sym c.as_slice.ensures) (owed c.args.self.now s (fed_with s.feed c.deref.result.now) c.in_ok-fed.fed.closed st (c.in_ok-fed.ensures.closed s.feed st.intake) c.in_ok-fed.ensures.fits)
 
 pub returns-clause-moved : goal.returns-clause-moved
