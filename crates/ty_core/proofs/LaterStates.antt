@@ -179,10 +179,10 @@ went_on None s s' e = (refl, ap (λ r. state_of r s) e)
 went_on (Some f) s s' e = cc
 
 pub behind : (s s' : State) (h : Happening) → IsFit s → CanHappen (going s) h → goes (going s) h ≡ going s' → Leads s s'
-next_state s s' (on e) f c g =
+behind s s' (on e) f c g =
     let w = went_on (event_fault s e) (next_state s e) s' g in
     let P : State → Type 0 = Leads s in
     subst P w.1 (behind_event s e f c w.0)
-next_state s s' end f c g =
+behind s s' end f c g =
     let P : State → Type 0 = Leads s in
     subst P (ap (λ r. state_of r s) g) (with_more s (finished s) f (ended_longer s.feed) refl refl)

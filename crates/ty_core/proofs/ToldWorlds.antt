@@ -171,7 +171,7 @@ comes [] s s' f c e =
 comes (h ∷ hs) s s' f c e =
     elim (goes (going s) h) as (λ r. goes (going s) h ≡ r → AllCanHappen r hs → run_from r hs ≡ going s' → Comes s s' (told_if_going r (told_of (going s) h) ++ report_from r hs)) [
       | going t ↦ λ g a x.
-          let l : Leads s t = next_state s t h f c.0 g in
+          let l : Leads s t = behind s t h f c.0 g in
           let rest : Comes t s' (report_from (going t) hs) = comes hs t s' l.fit a x in
           record {
             fit = rest.fit;
