@@ -8,5 +8,3 @@ pub mod Run
 pub mod Report
 pub mod Text
 pub mod steps
-pub mod Script
-pub mod Simulated
