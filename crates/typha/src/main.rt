@@ -1,32 +1,21 @@
 //! The program: standard input, standard output and standard error, and the top call.
 #![tactic(auto)]
 
-mod devices;
-
-use devices::{OsSink, OsSource};
 use std::process::ExitCode;
 use std::rt::Env;
 use std::{env, io};
 use ty_base::{NoMemory, Text, give_all};
+use ty_os::{OsSink, OsSource};
 use ty_top::{Local, local};
 
 fn main(rt: HostRuntime) -> ExitCode {
-    let mut notes = OsSink {
-        writer: rt.stderr(),
-        count: 0,
-    };
+    let mut notes = OsSink::new(rt.stderr());
     let Ok(words) = words(&rt) else {
         let _ = give_all(&mut notes, b"typha: out of memory\n");
         return ExitCode::from(5);
     };
-    let mut source = OsSource {
-        reader: rt.stdin(),
-        count: 0,
-    };
-    let mut sink = OsSink {
-        writer: rt.stdout(),
-        count: 0,
-    };
+    let mut source = OsSource::new(rt.stdin());
+    let mut sink = OsSink::new(rt.stdout());
     let Local::Done(status) = local(rt.alloc(), &words, &mut source, &mut sink, &mut notes);
     ExitCode::from(status)
 }

@@ -1,0 +1,3 @@
+-- Words that only the crate's own clauses reach.
+pub mod Backs
+pub mod Places
