@@ -23,3 +23,11 @@ pub mod LongerBooks
 pub mod LaterStates
 pub mod ToldWorlds
 pub mod ReceivedWorlds
+pub mod ScriptLines
+pub mod ScriptSteps
+pub mod ScriptCuts
+pub mod ScriptFeeds
+pub mod ScriptSources
+pub mod ScriptKept
+pub mod ScriptHappens
+pub mod Interleaved

@@ -376,3 +376,11 @@ queued_is rb None es None l = refl
 queued_is rb None es (Some k) l = absurd l
 queued_is rb (Some s) es None l = absurd l
 queued_is rb (Some s) es (Some k) l = ap Some (l.1.session_stands.queued.rest ∙ ap (drop k.got) (down-offered es k l.1.connection.marks l.1.connection.offered))
+
+pub offered_is : (rb : RebuildHeld) (sv : Option SessionHeld) (es : List Entry) (link : Option Connection) → LinkStands rb sv es link → option_map (λ s. s.number) sv ≡ option_map (λ k. k.offered) link
+offered_is rb None es None l = refl
+offered_is rb None es (Some k) l = absurd l
+offered_is rb (Some s) es None l = absurd l
+offered_is rb (Some s) es (Some k) l =
+    let within : k.offered ≤ length es = l.1.connection.offered in
+    ap Some (l.1.session_stands.number ∙ omega (arith, length-take k.offered es, within))

@@ -1,12 +1,17 @@
 -- What is so of every interleaving.
-use Rattle.std.specs.Prelude.{◌≡◌, ℕ, ◌≤◌, List, [], ◌∷◌, Option, None, Some, ⊤}
+use Rattle.std.specs.Prelude.{◌≡◌, ℕ, ◌<◌, ◌≤◌, List, [], ◌∷◌, ◌++◌, length, map, Option, None, Some, ⊤}
+use Rattle.std.specs.List.{AllByRecursion}
 use Rattle.std.specs.Option.{IfSome}
+use Rattle.ty_base.specs.declared.limits.TheConstants.{INPUT_BYTES}
 use Rattle.ty_wire.specs.Talk.{Rise}
-use Rattle.ty_client.specs.Rebuilt.{Rebuilt}
-use Rattle.ty_core.specs.Clients.{newest}
-use Rattle.ty_core.specs.Run.{State, trail, Happening, on, end, Ran, going, over, goes, no_state}
-use Rattle.ty_core.specs.Report.{world_shown}
-use Rattle.ty_script.specs.Fits.{IsEvent}
+use Rattle.ty_wire.specs.declared.message.Msg.{Msg}
+use Rattle.ty_client.specs.Heard.{Hears}
+use Rattle.ty_client.specs.Rebuilt.{Rebuilt, ats}
+use Rattle.ty_core.specs.Clients.{newest, down}
+use Rattle.ty_core.specs.Run.{State, trail, book_of, link, Happening, on, end, Ran, going, over, goes, run, no_state}
+use Rattle.ty_core.specs.Report.{report, world_shown}
+use Rattle.ty_core.specs.declared.client.Connection.{Connection}
+use Rattle.ty_script.specs.Fits.{IsEvent, IsClient}
 use Rattle.ty_core.specs.declared.told.Told.{Told}
 use Rattle.ty_core.specs.declared.told.Told.TheVariants.{Published, Rebuilt as AtEnd, Still}
 
@@ -48,3 +53,19 @@ ShowsWorlds s t = IfSome (map_of t) (IsWorldOf s)
 abbrev pub AreRising : List ℕ → ℕ → Type 0
 AreRising [] most = ⊤
 AreRising (n ∷ ns) most = Rise n ns most
+
+-- The headline
+
+-- what reaches client c on its connection, cut behind any byte, rebuilds worlds, whose numbers rise
+abbrev pub ReceivesWorlds : State → ℕ → Type 0
+ReceivesWorlds s c = (k : Connection) (bytes more : List ℕ) → link s c ≡ Some k → bytes ++ more ≡ down (book_of s) k → length bytes < INPUT_BYTES
+    → (ms : List Msg) × (ns : List ℕ) × Hears bytes ms None × (ats ms ≡ map (world_shown s) ns) × AreRising ns (newest (trail s))
+
+-- whatever happened, each map that was told is the world of its number, what reaches a client rebuilds worlds whose numbers
+-- rise, and maps of one number are equal
+pub record RebuildsWorlds (hs : List Happening) : Type 0 where
+  pub state : State
+  pub ran : run hs ≡ going state
+  pub told : AllByRecursion (ShowsWorlds state) (report hs)
+  pub received : (c : ℕ) → IsClient c → ReceivesWorlds state c
+  pub equal : (a b : Rebuilt) → IsWorldOf state a → IsWorldOf state b → a.number ≡ b.number → a ≡ b

@@ -8,3 +8,5 @@ pub mod Run
 pub mod Report
 pub mod Text
 pub mod steps
+pub mod Script
+pub mod Simulated

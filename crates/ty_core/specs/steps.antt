@@ -3,3 +3,4 @@ pub mod Chains
 pub mod Links
 pub mod Runs
 pub mod Slots
+pub mod Scripts

@@ -158,6 +158,15 @@ impl Run {
         self.slots[c as usize - 1].queued()
     }
 
+    // The number that a client's connection stands at.
+    pub(crate) fn offered(&self, c: u64) -> Option<u64>
+        requires { IsClient c }
+        ensures { (s : State) → RunStands self.now s
+            → result ≡ option_map (λ k. k.offered) (link s c) }
+    {
+        self.slots[c as usize - 1].offered()
+    }
+
     // What a client holds.
     pub(crate) fn held(&self, c: u64) -> Option<&At>
         requires { IsClient c }

@@ -55,6 +55,16 @@ impl Slot {
         }
     }
 
+    // The number that the session stands at.
+    pub(crate) fn offered(&self) -> Option<u64>
+        ensures { result ≡ option_map (λ s. s.number) self.now.session }
+    {
+        match &self.session {
+            Some(session) => Some(session.number()),
+            None => None,
+        }
+    }
+
     // What the client holds.
     pub(crate) fn held(&self) -> Option<&At>
         ensures { option_copied result ≡ self.now.rebuild.held }

@@ -150,6 +150,15 @@ impl World {
         self.run.queued(c)
     }
 
+    /// The number of the last breadcrumb that a client's connection joined or was offered, or 0 before it joins.
+    pub fn offered(&self, c: u64) -> Option<u64>
+        requires { IsClient c }
+        ensures { (hs : List Happening) (s : State) → WorldStands self.now hs → run hs ≡ going s
+            → result ≡ option_map (λ k. k.offered) (link s c) }
+    {
+        self.run.offered(c)
+    }
+
     /// What a client holds: what it has rebuilt at the last crumb end of its last connection that had one.
     pub fn held(&self, c: u64) -> Option<&At>
         requires { IsClient c }

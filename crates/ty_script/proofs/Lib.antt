@@ -1,4 +1,4 @@
 mod FeedLines
-mod Fitting
+pub mod Fitting
 mod Said
 mod Words
