@@ -1,0 +1,4 @@
+pub mod Plans
+pub mod Scripts
+pub mod Parts
+pub mod Summaries
