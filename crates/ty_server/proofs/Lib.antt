@@ -1,0 +1,9 @@
+pub mod Following
+pub mod Given
+pub mod Hellos
+pub mod Parts
+pub mod Saying
+pub mod Service
+pub mod Taking
+pub mod Turns
+pub mod Working

@@ -1,0 +1,4 @@
+-- Words that only the crate's own clauses reach.
+pub mod Parts
+pub mod Steps
+pub mod Service
