@@ -1,0 +1,3 @@
+pub mod Cli
+pub mod Given
+pub mod Words
