@@ -9,8 +9,9 @@ use Rattle.ty_intake.specs.Lines.{Feed as FeedSoFar}
 use Rattle.ty_intake.specs.Faults.{feed_fault}
 use Rattle.ty_intake.specs.Batches.{items_of}
 use Rattle.ty_intake.proofs.JoinedBatches.{few-of}
+use Rattle.ty_core.specs.Simulated.{Taken}
 use Rattle.ty_top.specs.Streamed.{streamed, worlds_from}
-use Rattle.ty_top.specs.Endings.{Taken, Streams, whole_feed}
+use Rattle.ty_top.specs.Endings.{Streams, whole_feed}
 use Rattle.ty_top.specs.declared.ending.StreamEnd.TheVariants.{Done}
 use Rattle.ty_top.proofs.FollowedStreams.{told, all_taken}
 

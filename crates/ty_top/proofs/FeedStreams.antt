@@ -22,8 +22,9 @@ use Rattle.ty_intake.specs.declared.intake.IntakeFault.{IntakeFault}
 use Rattle.ty_intake.specs.Batches.{is_whole, items_of, closed_items}
 use Rattle.ty_intake.proofs.JoinedBatches.{few-of, whole-of}
 use Rattle.ty_intake.proofs.SmallItems.{items_small}
+use Rattle.ty_core.specs.Simulated.{Taken}
 use Rattle.ty_top.specs.Streamed.{streamed, worlds_from}
-use Rattle.ty_top.specs.Endings.{Taken, Streams, stated}
+use Rattle.ty_top.specs.Endings.{Streams, stated}
 use Rattle.ty_top.specs.declared.ending.StreamEnd.{StreamEnd}
 use Rattle.ty_top.specs.declared.ending.StreamEnd.TheVariants as stream_end
 use Rattle.ty_top.proofs.Streams.{Rebuilds, RebuildsAll, stream_rebuilds, all_rebuilt}

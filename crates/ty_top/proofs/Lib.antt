@@ -3,6 +3,7 @@ pub mod Books
 pub mod Limits
 pub mod Streams
 pub mod Grown
+pub mod Headline
 pub mod Published
 pub mod FeedGrows
 pub mod StreamReading
@@ -11,3 +12,4 @@ pub mod FollowedStreams
 pub mod BothEnds
 pub mod FeedStreams
 pub mod Complete
+pub mod Simulations

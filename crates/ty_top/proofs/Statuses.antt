@@ -1,17 +1,24 @@
 -- What a run's exit status tells of its ending.
+use Rattle.std.specs.Prelude.{Some}
 use Rattle.std.proofs.Common.{◌≡◌, ◌≢◌, ◌⊎◌, inl, inr, true, false, true≢false, ℕ, Bool, refl, sym, ◌∙◌, arith, ap}
 use Rattle.ty_wire.specs.declared.fault.WireFault.TheVariants as wire
 use Rattle.ty_intake.specs.declared.intake.IntakeFault.{IntakeFault}
 use Rattle.ty_intake.specs.declared.intake.IntakeFault.TheVariants as feed
 use Rattle.ty_client.specs.declared.fault.StreamFault.{StreamFault}
 use Rattle.ty_client.specs.declared.fault.StreamFault.TheVariants as stream
-use Rattle.ty_top.specs.Endings.{exit_status, stream_status, follow_status, fault_status, feed_status}
+use Rattle.ty_core.specs.declared.simulation.SimFault.{SimFault}
+use Rattle.ty_core.specs.declared.simulation.SimFault.TheVariants as sim
+use Rattle.ty_top.specs.Endings.{exit_status, stream_status, follow_status, sim_status, load_status, fault_status, feed_status, script_line}
 use Rattle.ty_top.specs.declared.ending.Ending.{Ending}
-use Rattle.ty_top.specs.declared.ending.Ending.TheVariants.{Usage, Stream, Follow}
+use Rattle.ty_top.specs.declared.ending.Ending.TheVariants.{Usage, Memory, Stream, Follow, Sim, Load}
 use Rattle.ty_top.specs.declared.ending.StreamEnd.{StreamEnd}
 use Rattle.ty_top.specs.declared.ending.StreamEnd.TheVariants as stream_end
 use Rattle.ty_top.specs.declared.ending.FollowEnd.{FollowEnd}
 use Rattle.ty_top.specs.declared.ending.FollowEnd.TheVariants as follow_end
+use Rattle.ty_top.specs.declared.ending.SimEnd.{SimEnd}
+use Rattle.ty_top.specs.declared.ending.SimEnd.TheVariants as sim_end
+use Rattle.ty_top.specs.declared.ending.LoadEnd.{LoadEnd}
+use Rattle.ty_top.specs.declared.ending.LoadEnd.TheVariants as load_end
 
 -- a feed's fault, and a connection's
 
@@ -190,49 +197,217 @@ f_one follow_end.Memory s = absurd (omega arith)
 f_one (follow_end.Cut n) s = absurd (omega arith)
 f_one (follow_end.Fault f) s = elim (fault_either f) [ inl p ↦ absurd (omega (arith, s, p.0)) | inr p ↦ absurd (omega (arith, s, p.0)) ]
 
--- of either
+-- of `sim`
+
+pub sim_done : (e : SimEnd) → sim_status e ≡ 0 → e ≡ sim_end.Done
+sim_done sim_end.Done s = refl
+sim_done (sim_end.Stopped (sim.Event n)) s = absurd (omega arith)
+sim_done (sim_end.Stopped (sim.Feed n f)) s = absurd (omega arith)
+sim_done (sim_end.Stopped (sim.LongLine n)) s = absurd (omega arith)
+sim_done (sim_end.Stopped sim.TooMuch) s = absurd (omega arith)
+sim_done (sim_end.Stopped sim.Read) s = absurd (omega arith)
+sim_done (sim_end.Stopped sim.Write) s = absurd (omega arith)
+sim_done (sim_end.Stopped sim.NoMemory) s = absurd (omega arith)
+
+m_one : (e : SimEnd) → sim_status e ≡ 1 → ⊥
+m_one sim_end.Done s = absurd (omega arith)
+m_one (sim_end.Stopped (sim.Event n)) s = absurd (omega arith)
+m_one (sim_end.Stopped (sim.Feed n f)) s = absurd (omega arith)
+m_one (sim_end.Stopped (sim.LongLine n)) s = absurd (omega arith)
+m_one (sim_end.Stopped sim.TooMuch) s = absurd (omega arith)
+m_one (sim_end.Stopped sim.Read) s = absurd (omega arith)
+m_one (sim_end.Stopped sim.Write) s = absurd (omega arith)
+m_one (sim_end.Stopped sim.NoMemory) s = absurd (omega arith)
+
+m_two : (e : SimEnd) → sim_status e ≡ 2 → (f : SimFault) × (n : ℕ) × (script_line f ≡ Some n) × (e ≡ sim_end.Stopped f)
+m_two sim_end.Done s = absurd (omega arith)
+m_two (sim_end.Stopped (sim.Event n)) s = ((sim.Event n), n, refl, refl)
+m_two (sim_end.Stopped (sim.Feed n f)) s = ((sim.Feed n f), n, refl, refl)
+m_two (sim_end.Stopped (sim.LongLine n)) s = ((sim.LongLine n), n, refl, refl)
+m_two (sim_end.Stopped sim.TooMuch) s = absurd (omega arith)
+m_two (sim_end.Stopped sim.Read) s = absurd (omega arith)
+m_two (sim_end.Stopped sim.Write) s = absurd (omega arith)
+m_two (sim_end.Stopped sim.NoMemory) s = absurd (omega arith)
+
+m_three : (e : SimEnd) → sim_status e ≡ 3 → e ≡ sim_end.Stopped sim.Read
+m_three sim_end.Done s = absurd (omega arith)
+m_three (sim_end.Stopped (sim.Event n)) s = absurd (omega arith)
+m_three (sim_end.Stopped (sim.Feed n f)) s = absurd (omega arith)
+m_three (sim_end.Stopped (sim.LongLine n)) s = absurd (omega arith)
+m_three (sim_end.Stopped sim.TooMuch) s = absurd (omega arith)
+m_three (sim_end.Stopped sim.Read) s = refl
+m_three (sim_end.Stopped sim.Write) s = absurd (omega arith)
+m_three (sim_end.Stopped sim.NoMemory) s = absurd (omega arith)
+
+m_four : (e : SimEnd) → sim_status e ≡ 4 → e ≡ sim_end.Stopped sim.Write
+m_four sim_end.Done s = absurd (omega arith)
+m_four (sim_end.Stopped (sim.Event n)) s = absurd (omega arith)
+m_four (sim_end.Stopped (sim.Feed n f)) s = absurd (omega arith)
+m_four (sim_end.Stopped (sim.LongLine n)) s = absurd (omega arith)
+m_four (sim_end.Stopped sim.TooMuch) s = absurd (omega arith)
+m_four (sim_end.Stopped sim.Read) s = absurd (omega arith)
+m_four (sim_end.Stopped sim.Write) s = refl
+m_four (sim_end.Stopped sim.NoMemory) s = absurd (omega arith)
+
+m_five : (e : SimEnd) → sim_status e ≡ 5 → e ≡ sim_end.Stopped sim.NoMemory
+m_five sim_end.Done s = absurd (omega arith)
+m_five (sim_end.Stopped (sim.Event n)) s = absurd (omega arith)
+m_five (sim_end.Stopped (sim.Feed n f)) s = absurd (omega arith)
+m_five (sim_end.Stopped (sim.LongLine n)) s = absurd (omega arith)
+m_five (sim_end.Stopped sim.TooMuch) s = absurd (omega arith)
+m_five (sim_end.Stopped sim.Read) s = absurd (omega arith)
+m_five (sim_end.Stopped sim.Write) s = absurd (omega arith)
+m_five (sim_end.Stopped sim.NoMemory) s = refl
+
+m_six : (e : SimEnd) → sim_status e ≡ 6 → ⊥
+m_six sim_end.Done s = absurd (omega arith)
+m_six (sim_end.Stopped (sim.Event n)) s = absurd (omega arith)
+m_six (sim_end.Stopped (sim.Feed n f)) s = absurd (omega arith)
+m_six (sim_end.Stopped (sim.LongLine n)) s = absurd (omega arith)
+m_six (sim_end.Stopped sim.TooMuch) s = absurd (omega arith)
+m_six (sim_end.Stopped sim.Read) s = absurd (omega arith)
+m_six (sim_end.Stopped sim.Write) s = absurd (omega arith)
+m_six (sim_end.Stopped sim.NoMemory) s = absurd (omega arith)
+
+m_eight : (e : SimEnd) → sim_status e ≡ 8 → e ≡ sim_end.Stopped sim.TooMuch
+m_eight sim_end.Done s = absurd (omega arith)
+m_eight (sim_end.Stopped (sim.Event n)) s = absurd (omega arith)
+m_eight (sim_end.Stopped (sim.Feed n f)) s = absurd (omega arith)
+m_eight (sim_end.Stopped (sim.LongLine n)) s = absurd (omega arith)
+m_eight (sim_end.Stopped sim.TooMuch) s = refl
+m_eight (sim_end.Stopped sim.Read) s = absurd (omega arith)
+m_eight (sim_end.Stopped sim.Write) s = absurd (omega arith)
+m_eight (sim_end.Stopped sim.NoMemory) s = absurd (omega arith)
+
+m_nine : (e : SimEnd) → sim_status e ≡ 9 → ⊥
+m_nine sim_end.Done s = absurd (omega arith)
+m_nine (sim_end.Stopped (sim.Event n)) s = absurd (omega arith)
+m_nine (sim_end.Stopped (sim.Feed n f)) s = absurd (omega arith)
+m_nine (sim_end.Stopped (sim.LongLine n)) s = absurd (omega arith)
+m_nine (sim_end.Stopped sim.TooMuch) s = absurd (omega arith)
+m_nine (sim_end.Stopped sim.Read) s = absurd (omega arith)
+m_nine (sim_end.Stopped sim.Write) s = absurd (omega arith)
+m_nine (sim_end.Stopped sim.NoMemory) s = absurd (omega arith)
+
+-- of `load`
+
+l_zero : (e : LoadEnd) → load_status e ≡ 0 → e ≡ load_end.Done
+l_zero load_end.Done s = refl
+l_zero load_end.Write s = absurd (omega arith)
+l_zero load_end.Memory s = absurd (omega arith)
+
+l_one : (e : LoadEnd) → load_status e ≡ 1 → ⊥
+l_one load_end.Done s = absurd (omega arith)
+l_one load_end.Write s = absurd (omega arith)
+l_one load_end.Memory s = absurd (omega arith)
+
+l_two : (e : LoadEnd) → load_status e ≡ 2 → ⊥
+l_two load_end.Done s = absurd (omega arith)
+l_two load_end.Write s = absurd (omega arith)
+l_two load_end.Memory s = absurd (omega arith)
+
+l_three : (e : LoadEnd) → load_status e ≡ 3 → ⊥
+l_three load_end.Done s = absurd (omega arith)
+l_three load_end.Write s = absurd (omega arith)
+l_three load_end.Memory s = absurd (omega arith)
+
+l_four : (e : LoadEnd) → load_status e ≡ 4 → e ≡ load_end.Write
+l_four load_end.Done s = absurd (omega arith)
+l_four load_end.Write s = refl
+l_four load_end.Memory s = absurd (omega arith)
+
+l_five : (e : LoadEnd) → load_status e ≡ 5 → e ≡ load_end.Memory
+l_five load_end.Done s = absurd (omega arith)
+l_five load_end.Write s = absurd (omega arith)
+l_five load_end.Memory s = refl
+
+l_six : (e : LoadEnd) → load_status e ≡ 6 → ⊥
+l_six load_end.Done s = absurd (omega arith)
+l_six load_end.Write s = absurd (omega arith)
+l_six load_end.Memory s = absurd (omega arith)
+
+l_eight : (e : LoadEnd) → load_status e ≡ 8 → ⊥
+l_eight load_end.Done s = absurd (omega arith)
+l_eight load_end.Write s = absurd (omega arith)
+l_eight load_end.Memory s = absurd (omega arith)
+
+l_nine : (e : LoadEnd) → load_status e ≡ 9 → ⊥
+l_nine load_end.Done s = absurd (omega arith)
+l_nine load_end.Write s = absurd (omega arith)
+l_nine load_end.Memory s = absurd (omega arith)
+
+-- of any
 
 pub at_one : (e : Ending) → exit_status e ≡ 1 → e ≡ Usage
 at_one Usage s = refl
+at_one Memory s = absurd (omega arith)
 at_one (Stream e) s = absurd (s_one e s)
 at_one (Follow e) s = absurd (f_one e s)
+at_one (Sim e) s = absurd (m_one e s)
+at_one (Load e) s = absurd (l_one e s)
 
-pub at_zero : (e : Ending) → exit_status e ≡ 0 → (e ≡ Stream stream_end.Done) ⊎ (e ≡ Follow follow_end.Done)
+pub at_zero : (e : Ending) → exit_status e ≡ 0 → (e ≡ Stream stream_end.Done) ⊎ ((e ≡ Follow follow_end.Done) ⊎ ((e ≡ Sim sim_end.Done) ⊎ (e ≡ Load load_end.Done)))
 at_zero Usage s = absurd (omega arith)
+at_zero Memory s = absurd (omega arith)
 at_zero (Stream e) s = inl (ap (λ (x : StreamEnd). Stream x) (s_zero e s))
-at_zero (Follow e) s = inr (ap (λ (x : FollowEnd). Follow x) (f_zero e s))
+at_zero (Follow e) s = inr (inl (ap (λ (x : FollowEnd). Follow x) (f_zero e s)))
+at_zero (Sim e) s = inr (inr (inl (ap (λ (x : SimEnd). Sim x) (sim_done e s))))
+at_zero (Load e) s = inr (inr (inr (ap (λ (x : LoadEnd). Load x) (l_zero e s))))
 
-pub at_three : (e : Ending) → exit_status e ≡ 3 → (e ≡ Stream stream_end.Read) ⊎ (e ≡ Follow follow_end.Read)
+pub at_three : (e : Ending) → exit_status e ≡ 3 → (e ≡ Stream stream_end.Read) ⊎ ((e ≡ Follow follow_end.Read) ⊎ (e ≡ Sim (sim_end.Stopped sim.Read)))
 at_three Usage s = absurd (omega arith)
+at_three Memory s = absurd (omega arith)
 at_three (Stream e) s = inl (ap (λ (x : StreamEnd). Stream x) (s_three e s))
-at_three (Follow e) s = inr (ap (λ (x : FollowEnd). Follow x) (f_three e s))
+at_three (Follow e) s = inr (inl (ap (λ (x : FollowEnd). Follow x) (f_three e s)))
+at_three (Sim e) s = inr (inr (ap (λ (x : SimEnd). Sim x) (m_three e s)))
+at_three (Load e) s = absurd (l_three e s)
 
-pub at_four : (e : Ending) → exit_status e ≡ 4 → (e ≡ Stream stream_end.Write) ⊎ (e ≡ Follow follow_end.Write)
+pub at_four : (e : Ending) → exit_status e ≡ 4 → (e ≡ Stream stream_end.Write) ⊎ ((e ≡ Follow follow_end.Write) ⊎ ((e ≡ Sim (sim_end.Stopped sim.Write)) ⊎ (e ≡ Load load_end.Write)))
 at_four Usage s = absurd (omega arith)
+at_four Memory s = absurd (omega arith)
 at_four (Stream e) s = inl (ap (λ (x : StreamEnd). Stream x) (s_four e s))
-at_four (Follow e) s = inr (ap (λ (x : FollowEnd). Follow x) (f_four e s))
+at_four (Follow e) s = inr (inl (ap (λ (x : FollowEnd). Follow x) (f_four e s)))
+at_four (Sim e) s = inr (inr (inl (ap (λ (x : SimEnd). Sim x) (m_four e s))))
+at_four (Load e) s = inr (inr (inr (ap (λ (x : LoadEnd). Load x) (l_four e s))))
 
-pub at_five : (e : Ending) → exit_status e ≡ 5 → (e ≡ Stream stream_end.Memory) ⊎ (e ≡ Follow follow_end.Memory)
+pub at_five : (e : Ending) → exit_status e ≡ 5 → (e ≡ Memory) ⊎ ((e ≡ Stream stream_end.Memory) ⊎ ((e ≡ Follow follow_end.Memory)
+    ⊎ ((e ≡ Sim (sim_end.Stopped sim.NoMemory)) ⊎ (e ≡ Load load_end.Memory))))
 at_five Usage s = absurd (omega arith)
-at_five (Stream e) s = inl (ap (λ (x : StreamEnd). Stream x) (s_five e s))
-at_five (Follow e) s = inr (ap (λ (x : FollowEnd). Follow x) (f_five e s))
+at_five Memory s = inl refl
+at_five (Stream e) s = inr (inl (ap (λ (x : StreamEnd). Stream x) (s_five e s)))
+at_five (Follow e) s = inr (inr (inl (ap (λ (x : FollowEnd). Follow x) (f_five e s))))
+at_five (Sim e) s = inr (inr (inr (inl (ap (λ (x : SimEnd). Sim x) (m_five e s)))))
+at_five (Load e) s = inr (inr (inr (inr (ap (λ (x : LoadEnd). Load x) (l_five e s)))))
 
-pub at_two : (e : Ending) → exit_status e ≡ 2 → (f : IntakeFault) × (f ≢ feed.TooMuch) × (e ≡ Stream (stream_end.Fault f))
+pub at_eight : (e : Ending) → exit_status e ≡ 8 → (e ≡ Stream (stream_end.Fault feed.TooMuch)) ⊎ ((e ≡ Follow (follow_end.Fault (stream.Wire wire.TooMuch))) ⊎ (e ≡ Sim (sim_end.Stopped sim.TooMuch)))
+at_eight Usage s = absurd (omega arith)
+at_eight Memory s = absurd (omega arith)
+at_eight (Stream e) s = inl (ap (λ (x : StreamEnd). Stream x) (s_eight e s))
+at_eight (Follow e) s = inr (inl (ap (λ (x : FollowEnd). Follow x) (f_eight e s)))
+at_eight (Sim e) s = inr (inr (ap (λ (x : SimEnd). Sim x) (m_eight e s)))
+at_eight (Load e) s = absurd (l_eight e s)
+
+pub at_two : (e : Ending) → exit_status e ≡ 2 → ((f : IntakeFault) × (f ≢ feed.TooMuch) × (e ≡ Stream (stream_end.Fault f)))
+    ⊎ ((f : SimFault) × (n : ℕ) × (script_line f ≡ Some n) × (e ≡ Sim (sim_end.Stopped f)))
 at_two Usage s = absurd (omega arith)
-at_two (Stream e) s = let r = s_two e s in (r.0, r.1, ap (λ (x : StreamEnd). Stream x) r.2)
+at_two Memory s = absurd (omega arith)
+at_two (Stream e) s = let r = s_two e s in inl (r.0, r.1, ap (λ (x : StreamEnd). Stream x) r.2)
 at_two (Follow e) s = absurd (f_two e s)
+at_two (Sim e) s = let r = m_two e s in inr (r.0, r.1, r.2, ap (λ (x : SimEnd). Sim x) r.3)
+at_two (Load e) s = absurd (l_two e s)
 
 pub at_six : (e : Ending) → exit_status e ≡ 6 → (f : StreamFault) × (f ≢ stream.Wire wire.TooMuch) × (e ≡ Follow (follow_end.Fault f))
 at_six Usage s = absurd (omega arith)
+at_six Memory s = absurd (omega arith)
 at_six (Stream e) s = absurd (s_six e s)
 at_six (Follow e) s = let r = f_six e s in (r.0, r.1, ap (λ (x : FollowEnd). Follow x) r.2)
-
-pub at_eight : (e : Ending) → exit_status e ≡ 8 → (e ≡ Stream (stream_end.Fault feed.TooMuch)) ⊎ (e ≡ Follow (follow_end.Fault (stream.Wire wire.TooMuch)))
-at_eight Usage s = absurd (omega arith)
-at_eight (Stream e) s = inl (ap (λ (x : StreamEnd). Stream x) (s_eight e s))
-at_eight (Follow e) s = inr (ap (λ (x : FollowEnd). Follow x) (f_eight e s))
+at_six (Sim e) s = absurd (m_six e s)
+at_six (Load e) s = absurd (l_six e s)
 
 pub at_nine : (e : Ending) → exit_status e ≡ 9 → (left : ℕ) × (e ≡ Follow (follow_end.Cut left))
 at_nine Usage s = absurd (omega arith)
+at_nine Memory s = absurd (omega arith)
 at_nine (Stream e) s = absurd (s_nine e s)
 at_nine (Follow e) s = let r = f_nine e s in (r.0, ap (λ (x : FollowEnd). Follow x) r.1)
+at_nine (Sim e) s = absurd (m_nine e s)
+at_nine (Load e) s = absurd (l_nine e s)

@@ -25,8 +25,9 @@ use Rattle.ty_intake.specs.Faults.{feed_fault, first_line_fault, rest_fault, end
 use Rattle.ty_intake.specs.Batches.{items_of, is_whole, batches_of, batch_fits, closed_items, joined}
 use Rattle.ty_intake.specs.Held.{IntakeHeld, IntakeStands}
 use Rattle.ty_intake.proofs.JoinedBatches.{joined-of, few-of, whole-of, none-of}
+use Rattle.ty_core.specs.Simulated.{Taken}
 use Rattle.ty_top.specs.Streamed.{streamed}
-use Rattle.ty_top.specs.Endings.{Taken, stated, Streams}
+use Rattle.ty_top.specs.Endings.{stated, Streams}
 use Rattle.ty_top.specs.steps.Publisher.{Gave, CrumbOf, Owed, AreGiven, AreGivenAndTold}
 use Rattle.ty_top.specs.steps.Stream.{IsReadTo, Stated, StatedPart, IsPieceRead, IsEndRead, end_at, end_by}
 use Rattle.ty_top.specs.declared.ending.StreamEnd.TheVariants as stream_end

@@ -1,9 +1,8 @@
 -- What `stream` writes is a talk over the book of its items, and the entries of a book leave the worlds.
 use Rattle.std.proofs.Common.{◌≡◌, ℕ, zero, suc, ◌+◌, ◌-◌, ◌^◌, ◌<◌, ◌≤◌, Bool, true, false, cond, ◌&&◌, ◌||◌, ◌==◌, ◌%◌, nat_le, List, [], ◌∷◌, ◌++◌, length, take, map, get_or, refl, sym, ap, subst, ◌∙◌, arith, inl, inr, eq-or-lt_of_le, eq-eqb, leb-false, append-nil}
 use Rattle.std.specs.Prelude.{None, if◌then◌else◌}
-use Rattle.std.specs.List.{All, filter, range_with_len, suffix_len}
+use Rattle.std.specs.List.{filter, range_with_len, suffix_len}
 use Rattle.std.proofs.lemmas.Bool.{leb-true}
-use Rattle.std.proofs.lemmas.List.Elements.{All-from_recursion}
 use Rattle.std.proofs.lemmas.List.{take_all}
 use Rattle.ty_base.specs.declared.item.Item.{Item}
 use Rattle.ty_base.specs.declared.entry.Entry.{Entry}

@@ -1,5 +1,5 @@
 pub mod Endings
+pub mod Headline
 pub mod Notes
 pub mod Streamed
-pub mod Words
 pub mod steps

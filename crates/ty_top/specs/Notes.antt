@@ -9,12 +9,18 @@ use Rattle.ty_intake.specs.declared.intake.IntakeFault.{IntakeFault}
 use Rattle.ty_intake.specs.declared.intake.IntakeFault.TheVariants as feed
 use Rattle.ty_client.specs.declared.fault.StreamFault.{StreamFault}
 use Rattle.ty_client.specs.declared.fault.StreamFault.TheVariants as stream
+use Rattle.ty_core.specs.declared.simulation.SimFault.{SimFault}
+use Rattle.ty_core.specs.declared.simulation.SimFault.TheVariants as sim
 use Rattle.ty_top.specs.declared.ending.Ending.{Ending}
-use Rattle.ty_top.specs.declared.ending.Ending.TheVariants.{Usage, Stream, Follow}
+use Rattle.ty_top.specs.declared.ending.Ending.TheVariants.{Usage, Memory, Stream, Follow, Sim, Load}
 use Rattle.ty_top.specs.declared.ending.StreamEnd.{StreamEnd}
 use Rattle.ty_top.specs.declared.ending.StreamEnd.TheVariants as stream_end
 use Rattle.ty_top.specs.declared.ending.FollowEnd.{FollowEnd}
 use Rattle.ty_top.specs.declared.ending.FollowEnd.TheVariants as follow_end
+use Rattle.ty_top.specs.declared.ending.SimEnd.{SimEnd}
+use Rattle.ty_top.specs.declared.ending.SimEnd.TheVariants as sim_end
+use Rattle.ty_top.specs.declared.ending.LoadEnd.{LoadEnd}
+use Rattle.ty_top.specs.declared.ending.LoadEnd.TheVariants as load_end
 
 abbrev pub usage_note : List ℕ
 usage_note = codes "usage: typha stream|follow|sim|load|serve [--from N] [--brief] [--at ADDR] [--host NAME] [--tries N] [--number N] [--workers N]\n"
@@ -69,10 +75,31 @@ follow_note follow_end.Read = read_note
 follow_note follow_end.Write = write_note
 follow_note follow_end.Memory = memory_note
 
+abbrev pub script_note : SimFault → List ℕ
+script_note (sim.Event n) = with_number (codes "typha: line ") n (codes ": not an event\n")
+script_note (sim.Feed n f) = feed_note f
+script_note (sim.LongLine n) = feed_note (feed.LongLine n)
+script_note sim.TooMuch = feed_note feed.TooMuch
+script_note sim.Read = read_note
+script_note sim.Write = write_note
+script_note sim.NoMemory = memory_note
+
+abbrev pub sim_note : SimEnd → List ℕ
+sim_note sim_end.Done = []
+sim_note (sim_end.Stopped f) = script_note f
+
+abbrev pub load_note : LoadEnd → List ℕ
+load_note load_end.Done = []
+load_note load_end.Write = write_note
+load_note load_end.Memory = memory_note
+
 abbrev pub note_of : Ending → List ℕ
 note_of Usage = usage_note
+note_of Memory = memory_note
 note_of (Stream end) = stream_note end
 note_of (Follow end) = follow_note end
+note_of (Sim end) = sim_note end
+note_of (Load end) = load_note end
 
 -- the text was given whole, or a front of it where the sink failed
 abbrev pub IsNoted : Output → Output → List ℕ → Type 0

@@ -1,8 +1,9 @@
 // How a run ends.
 ghost use Rattle.std.specs.Prelude.{◌≡◌, ◌⊎◌};
-ghost use Rattle.ty_top.specs.Endings.{exit_status, stream_status, follow_status, fault_status as fault_status_of, feed_status as feed_status_of};
+ghost use Rattle.ty_top.specs.Endings.{exit_status, stream_status, follow_status, sim_status, load_status, fault_status as fault_status_of, feed_status as feed_status_of, script_status as script_status_of};
 
 use ty_client::StreamFault;
+use ty_core::SimFault;
 use ty_intake::IntakeFault;
 use ty_wire::WireFault;
 
@@ -18,8 +19,12 @@ pub enum Local {
 pub(crate) enum Ending {
     /// The words are refused.
     Usage,
+    /// Memory ran out before the words were read.
+    Memory,
     Stream(StreamEnd),
     Follow(FollowEnd),
+    Sim(SimEnd),
+    Load(LoadEnd),
 }
 
 /// How a run of `stream` ends.
@@ -54,6 +59,26 @@ pub(crate) enum FollowEnd {
     Memory,
 }
 
+/// How a run of `sim` ends.
+#[derive(Clone, Copy, Debug, PartialEq, Eq)]
+pub(crate) enum SimEnd {
+    /// All was read, run and written.
+    Done,
+    /// The script was run no further.
+    Stopped(SimFault),
+}
+
+/// How a run of `load` ends.
+#[derive(Clone, Copy, Debug, PartialEq, Eq)]
+pub(crate) enum LoadEnd {
+    /// The summary was written.
+    Done,
+    /// The sink failed.
+    Write,
+    /// Memory ran out.
+    Memory,
+}
+
 impl Ending {
     /// The exit status of a run that ends so.
     pub fn status(self) -> u8
@@ -61,8 +86,11 @@ impl Ending {
     {
         match self {
             Ending::Usage => 1,
+            Ending::Memory => 5,
             Ending::Stream(end) => end.status(),
             Ending::Follow(end) => end.status(),
+            Ending::Sim(end) => end.status(),
+            Ending::Load(end) => end.status(),
         }
     }
 }
@@ -93,6 +121,41 @@ impl FollowEnd {
             FollowEnd::Write => 4,
             FollowEnd::Memory => 5,
         }
+    }
+}
+
+impl SimEnd {
+    fn status(self) -> u8
+        ensures { result ≡ sim_status self }
+    {
+        match self {
+            SimEnd::Done => 0,
+            SimEnd::Stopped(fault) => script_status(fault),
+        }
+    }
+}
+
+impl LoadEnd {
+    fn status(self) -> u8
+        ensures { result ≡ load_status self }
+    {
+        match self {
+            LoadEnd::Done => 0,
+            LoadEnd::Write => 4,
+            LoadEnd::Memory => 5,
+        }
+    }
+}
+
+fn script_status(fault: SimFault) -> u8
+    ensures { result ≡ script_status_of fault }
+{
+    match fault {
+        SimFault::Event { .. } | SimFault::Feed { .. } | SimFault::LongLine { .. } => 2,
+        SimFault::TooMuch => 8,
+        SimFault::Read => 3,
+        SimFault::Write => 4,
+        SimFault::NoMemory => 5,
     }
 }
 

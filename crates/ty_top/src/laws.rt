@@ -17,25 +17,35 @@ ghost use Rattle.ty_intake.specs.Faults.{feed_fault};
 ghost use Rattle.ty_intake.specs.Lines.{Feed};
 ghost use Rattle.ty_intake.specs.Batches.{items_of, closed_items};
 ghost use Rattle.ty_intake.specs.declared.intake.IntakeFault.{IntakeFault};
+ghost use Rattle.ty_core.specs.Simulated.{Taken};
 ghost use Rattle.ty_top.specs.Streamed.{streamed, worlds_from};
-ghost use Rattle.ty_top.specs.Endings.{Taken, Streams, stated, exit_status, whole_feed};
+ghost use Rattle.ty_top.specs.Endings.{Streams, stated, exit_status, script_line, whole_feed};
 ghost use Rattle.ty_top.specs.declared.ending.Ending.{Ending};
 ghost use Rattle.ty_top.specs.declared.ending.StreamEnd.{StreamEnd};
 ghost use Rattle.ty_top.specs.declared.ending.FollowEnd.{FollowEnd};
+ghost use Rattle.ty_top.specs.declared.ending.SimEnd.{SimEnd};
+ghost use Rattle.ty_top.specs.declared.ending.LoadEnd.{LoadEnd};
+ghost use Rattle.ty_core.specs.declared.simulation.SimFault.{SimFault};
 
 /// What each exit status tells of a run's ending, of which `local` says what was read, written and noted.
 pub fn statuses_tell()
-    ensures done { (e : Ending) → exit_status e ≡ 0 → (e ≡ Ending.Stream StreamEnd.Done) ⊎ (e ≡ Ending.Follow FollowEnd.Done) }
+    ensures done { (e : Ending) → exit_status e ≡ 0 → (e ≡ Ending.Stream StreamEnd.Done) ⊎ ((e ≡ Ending.Follow FollowEnd.Done)
+        ⊎ ((e ≡ Ending.Sim SimEnd.Done) ⊎ (e ≡ Ending.Load LoadEnd.Done))) }
     ensures usage { (e : Ending) → exit_status e ≡ 1 → e ≡ Ending.Usage }
     ensures line { (e : Ending) → exit_status e ≡ 2
-        → (fault : IntakeFault) × (fault ≢ IntakeFault.TooMuch) × (e ≡ Ending.Stream (StreamEnd.Fault fault)) }
-    ensures read { (e : Ending) → exit_status e ≡ 3 → (e ≡ Ending.Stream StreamEnd.Read) ⊎ (e ≡ Ending.Follow FollowEnd.Read) }
-    ensures write { (e : Ending) → exit_status e ≡ 4 → (e ≡ Ending.Stream StreamEnd.Write) ⊎ (e ≡ Ending.Follow FollowEnd.Write) }
-    ensures memory { (e : Ending) → exit_status e ≡ 5 → (e ≡ Ending.Stream StreamEnd.Memory) ⊎ (e ≡ Ending.Follow FollowEnd.Memory) }
+        → ((fault : IntakeFault) × (fault ≢ IntakeFault.TooMuch) × (e ≡ Ending.Stream (StreamEnd.Fault fault)))
+        ⊎ ((fault : SimFault) × (n : ℕ) × (script_line fault ≡ Some n) × (e ≡ Ending.Sim (SimEnd.Stopped fault))) }
+    ensures read { (e : Ending) → exit_status e ≡ 3 → (e ≡ Ending.Stream StreamEnd.Read) ⊎ ((e ≡ Ending.Follow FollowEnd.Read)
+        ⊎ (e ≡ Ending.Sim (SimEnd.Stopped SimFault.Read))) }
+    ensures write { (e : Ending) → exit_status e ≡ 4 → (e ≡ Ending.Stream StreamEnd.Write) ⊎ ((e ≡ Ending.Follow FollowEnd.Write)
+        ⊎ ((e ≡ Ending.Sim (SimEnd.Stopped SimFault.Write)) ⊎ (e ≡ Ending.Load LoadEnd.Write))) }
+    ensures memory { (e : Ending) → exit_status e ≡ 5 → (e ≡ Ending.Memory) ⊎ ((e ≡ Ending.Stream StreamEnd.Memory) ⊎ ((e ≡ Ending.Follow FollowEnd.Memory)
+        ⊎ ((e ≡ Ending.Sim (SimEnd.Stopped SimFault.NoMemory)) ⊎ (e ≡ Ending.Load LoadEnd.Memory)))) }
     ensures fault { (e : Ending) → exit_status e ≡ 6
         → (fault : StreamFault) × (fault ≢ StreamFault.Wire WireFault.TooMuch) × (e ≡ Ending.Follow (FollowEnd.Fault fault)) }
     ensures too_much { (e : Ending) → exit_status e ≡ 8 → (e ≡ Ending.Stream (StreamEnd.Fault IntakeFault.TooMuch))
-        ⊎ (e ≡ Ending.Follow (FollowEnd.Fault (StreamFault.Wire WireFault.TooMuch))) }
+        ⊎ ((e ≡ Ending.Follow (FollowEnd.Fault (StreamFault.Wire WireFault.TooMuch)))
+        ⊎ (e ≡ Ending.Sim (SimEnd.Stopped SimFault.TooMuch))) }
     ensures cut { (e : Ending) → exit_status e ≡ 9 → (left : ℕ) × (e ≡ Ending.Follow (FollowEnd.Cut left)) }
 {}
 

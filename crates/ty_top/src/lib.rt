@@ -4,12 +4,13 @@
 mod ending;
 mod follow;
 mod laws;
+mod load;
 mod notes;
 mod plain;
 mod publisher;
+mod sim;
 mod stream;
 mod top;
-mod words;
 
 pub use ending::Local;
 pub use laws::{

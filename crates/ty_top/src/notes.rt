@@ -4,12 +4,13 @@ ghost use Rattle.std.specs.Io.KnownBytes.{Appends};
 ghost use Rattle.ty_base.specs.Causes.{HasCause};
 ghost use Rattle.ty_base.specs.Fronts.{AppendsFront};
 ghost use Rattle.ty_client.specs.declared.fault.StreamFault.TheVariants.{Wire};
-ghost use Rattle.ty_top.specs.Notes.{note_of, stream_note, follow_note, fault_note, feed_note, with_number, with_two_numbers, rising_note, IsNoted};
+ghost use Rattle.ty_top.specs.Notes.{note_of, stream_note, follow_note, sim_note, load_note, script_note, fault_note, feed_note, with_number, with_two_numbers, rising_note, IsNoted};
 
-use crate::ending::{Ending, FollowEnd, StreamEnd};
+use crate::ending::{Ending, FollowEnd, LoadEnd, SimEnd, StreamEnd};
 use itoa::Buffer;
 use ty_base::{Failed, Sink, give_all};
 use ty_client::StreamFault;
+use ty_core::SimFault;
 use ty_intake::IntakeFault;
 use ty_wire::WireFault;
 
@@ -36,8 +37,11 @@ fn try_tell<E: Sink>(notes: &mut E, ending: Ending) -> Result<(), Failed>
 {
     match ending {
         Ending::Usage => give_all(notes, USAGE),
+        Ending::Memory => give_all(notes, MEMORY),
         Ending::Stream(end) => tell_stream(notes, end),
         Ending::Follow(end) => tell_follow(notes, end),
+        Ending::Sim(end) => tell_sim(notes, end),
+        Ending::Load(end) => tell_load(notes, end),
     }
 }
 
@@ -67,6 +71,50 @@ fn tell_follow<E: Sink>(notes: &mut E, end: FollowEnd) -> Result<(), Failed>
         FollowEnd::Read => give_all(notes, READ),
         FollowEnd::Write => give_all(notes, WRITE),
         FollowEnd::Memory => give_all(notes, MEMORY),
+    }
+}
+
+fn tell_sim<E: Sink>(notes: &mut E, end: SimEnd) -> Result<(), Failed>
+    ensures ok { OnOk result (Appends (E.seen notes.old).held (E.seen notes.new).held (sim_note end)) }
+    ensures err { OnErr result (AppendsFront (E.seen notes.old).held (E.seen notes.new).held (sim_note end)) }
+    ensures cause { HasCause (E.seen notes.old).faults (E.seen notes.new).faults result }
+{
+    match end {
+        SimEnd::Done => give_all(notes, b""),
+        SimEnd::Stopped(fault) => tell_script(notes, fault),
+    }
+}
+
+fn tell_load<E: Sink>(notes: &mut E, end: LoadEnd) -> Result<(), Failed>
+    ensures ok { OnOk result (Appends (E.seen notes.old).held (E.seen notes.new).held (load_note end)) }
+    ensures err { OnErr result (AppendsFront (E.seen notes.old).held (E.seen notes.new).held (load_note end)) }
+    ensures cause { HasCause (E.seen notes.old).faults (E.seen notes.new).faults result }
+{
+    match end {
+        LoadEnd::Done => give_all(notes, b""),
+        LoadEnd::Write => give_all(notes, WRITE),
+        LoadEnd::Memory => give_all(notes, MEMORY),
+    }
+}
+
+fn tell_script<E: Sink>(notes: &mut E, fault: SimFault) -> Result<(), Failed>
+    ensures ok { OnOk result (Appends (E.seen notes.old).held (E.seen notes.new).held (script_note fault)) }
+    ensures err { OnErr result (AppendsFront (E.seen notes.old).held (E.seen notes.new).held (script_note fault)) }
+    ensures cause { HasCause (E.seen notes.old).faults (E.seen notes.new).faults result }
+{
+    match fault {
+        SimFault::Event { line } => give_with_number(
+            notes,
+            b"typha: line ",
+            line,
+            b": not an event\n",
+        ),
+        SimFault::Feed { fault, .. } => tell_feed(notes, fault),
+        SimFault::LongLine { line } => tell_feed(notes, IntakeFault::LongLine { line }),
+        SimFault::TooMuch => tell_feed(notes, IntakeFault::TooMuch),
+        SimFault::Read => give_all(notes, READ),
+        SimFault::Write => give_all(notes, WRITE),
+        SimFault::NoMemory => give_all(notes, MEMORY),
     }
 }
 

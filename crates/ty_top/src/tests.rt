@@ -9,6 +9,7 @@ mod feeds;
 mod follows;
 mod plain;
 mod realistic;
+mod scripts;
 
 const HELLO: &str = "{\"m\":\"server_hello\",\"version\":1}";
 

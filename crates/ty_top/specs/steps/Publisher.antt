@@ -1,5 +1,5 @@
 -- Breadcrumbs that are published as a feed is read.
-use Rattle.std.specs.Prelude.{◌≡◌, ◌≤◌, ◌<◌, ◌^◌, ℕ, nat_lt, ◌==◌, Bool, true, List, [], ◌++◌, length, Option, None, Some, Result, Ok, Err, OnOk, if◌then◌else◌}
+use Rattle.std.specs.Prelude.{◌≡◌, ◌≤◌, ◌<◌, ℕ, nat_lt, ◌==◌, Bool, true, List, [], ◌++◌, length, Option, None, Some, Result, Ok, Err, OnOk, if◌then◌else◌}
 use Rattle.std.specs.List.{list_all}
 use Rattle.std.specs.Io.KnownBytes.{Appends}
 use Rattle.ty_base.specs.declared.item.Item.{Item}
@@ -16,17 +16,12 @@ use Rattle.ty_map.specs.Shape.{pairs}
 use Rattle.ty_crumb.specs.Crumbs.{CrumbStands, snapshot_of}
 use Rattle.ty_intake.specs.declared.batch.Closed.{Closed}
 use Rattle.ty_intake.specs.declared.intake.IntakeFault.{IntakeFault}
-use Rattle.ty_intake.specs.Lines.{Feed as FeedSoFar, ended_now}
-use Rattle.ty_intake.specs.Faults.{feed_fault}
-use Rattle.ty_intake.specs.Batches.{batches, batch_fits, closed_items, joined}
-use Rattle.ty_intake.specs.Held.{IntakeHeld, IntakeStands}
+use Rattle.ty_intake.specs.Batches.{batches, batch_fits, joined}
 use Rattle.ty_top.specs.Streamed.{streamed}
 use Rattle.ty_top.specs.declared.publisher.Unwritten.{Unwritten}
 use Rattle.ty_top.specs.declared.publisher.Unwritten.TheVariants.{Sink as NoRoom, Memory as Short}
 use Rattle.ty_top.specs.declared.publisher.Stop.{Stop}
 use Rattle.ty_top.specs.declared.publisher.Stop.TheVariants.{Fault, Sink, Memory}
-use Rattle.ty_base.specs.Limits.{AreSmall}
-use Rattle.ty_top.specs.Endings.{stated}
 
 -- the bytes were given whole, or a front of them, and why
 abbrev pub Gave : Result (Unit {0}) Unwritten → Output → Output → List ℕ → Type 0

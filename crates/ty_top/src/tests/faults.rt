@@ -15,32 +15,10 @@ fn words_that_are_refused_have_their_note(rt: HostRuntime) -> Result<(), Fail> {
     for words in [
         none.as_slice(),
         &["bake"],
-        &["stream", "stream"],
-        &["Stream"],
-        &["follow", "--brief", "--brief"],
-        &["follow", "--from"],
-        &[""],
-    ] {
-        let ran = run(rt.alloc(), words, FEED.as_bytes(), GOOD)?;
-        assert!(rt; came(&ran, 1, b"", USAGE));
-    }
-    Ok(())
-}
-
-#[test]
-fn stream_takes_one_number(rt: HostRuntime) -> Result<(), Fail> {
-    for words in [
-        ["stream", "--from"].as_slice(),
-        &["stream", "--from", "x"],
-        &["stream", "--from", ""],
-        &["stream", "--from", "01"],
-        &["stream", "--from", "+1"],
         &["stream", "--from", "1099511627777"],
-        &["stream", "--from", "18446744073709551616"],
-        &["stream", "--from", "1", "--from", "1"],
-        &["stream", "--brief"],
-        &["stream", "--To", "1"],
-        &["follow", "--from", "1"],
+        &["follow", "--brief", "--brief"],
+        &["sim", "--from=1"],
+        &["load", "--number", "18446744073709551616"],
     ] {
         let ran = run(rt.alloc(), words, FEED.as_bytes(), GOOD)?;
         assert!(rt; came(&ran, 1, b"", USAGE));
