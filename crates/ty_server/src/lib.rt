@@ -6,6 +6,8 @@ mod giving;
 mod greeting;
 mod listening;
 mod serving;
+#[cfg(test)]
+mod tests;
 mod turning;
 
 pub use answers::{Greet, Turn};
