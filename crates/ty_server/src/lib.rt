@@ -6,8 +6,6 @@ mod giving;
 mod greeting;
 mod listening;
 mod serving;
-#[cfg(test)]
-mod tests;
 mod turning;
 
 pub use answers::{Greet, Turn};
