@@ -3,11 +3,7 @@
 # same count of updates, in one run: processor seconds, the best of five, and their ratio; peak memory where /usr/bin/time is
 # at hand.
 set -eu
-top=$(CDPATH='' cd -- "$(dirname -- "$0")/.." && pwd)
-program=$top/crates/typha/out/typha
-[ -x "$program" ] || { echo "build the program first: ./typha stream </dev/null" >&2; exit 1; }
-work=$(mktemp -d)
-trap 'rm -rf "$work"' EXIT
+. "$(dirname -- "$0")/program.sh"
 awk 'BEGIN { for (i = 0; i < 20000; i++) printf "{\"key\":\"/calico/v1/config/k%d\",\"value\":\"v%d\"}\n", (i * 7919) % 2000, i % 1000 }' >"$work/feed"
 best() {
     for _ in 1 2 3 4 5; do

@@ -3,11 +3,7 @@
 # of 1,000 keys, and as a peer `wc -l` over the same feed in the same run. Prints seconds, MB/s of what is read and, where
 # /usr/bin/time is at hand, peak memory.
 set -eu
-top=$(CDPATH='' cd -- "$(dirname -- "$0")/.." && pwd)
-program=$top/crates/typha/out/typha
-[ -x "$program" ] || { echo "build the program first: ./typha stream </dev/null" >&2; exit 1; }
-work=$(mktemp -d)
-trap 'rm -rf "$work"' EXIT
+. "$(dirname -- "$0")/program.sh"
 awk 'BEGIN { for (i = 0; i < 100000; i++) printf "{\"key\":\"/calico/v1/config/k%d\",\"value\":\"v%d\"}\n", (i * 7919) % 1000, i }' >"$work/feed"
 measure() {
     name=$1
