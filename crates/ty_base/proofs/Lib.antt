@@ -7,3 +7,6 @@ pub mod Reading
 pub mod Known
 pub mod Taken
 pub mod Passing
+pub mod Backs
+pub mod Places
+pub mod Telling

@@ -3,7 +3,7 @@ ghost use Rattle.std.specs.Prelude.{⊤};
 
 use std::rt;
 use std::time::Instant;
-use ty_links::Clock;
+use ty_base::Clock;
 
 /// Milliseconds since it was made, or 0 where the system's clock fails. Make it where the program
 /// starts. It tells nothing: it may give any moment.

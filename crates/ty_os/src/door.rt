@@ -7,8 +7,7 @@ use std::net::{Net, TcpListener, TcpStream};
 use std::rt::Clock;
 use std::time::Duration;
 use std::{io, thread};
-use ty_base::Failed;
-use ty_links::{Came, Door};
+use ty_base::{Came, Door, Failed};
 
 /// How long a listening door rests where nothing came, in milliseconds.
 const REST: u64 = 100;

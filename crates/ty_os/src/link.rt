@@ -5,8 +5,7 @@ use std::io;
 use std::io::{ErrorKind, Read, Write};
 use std::net::TcpStream;
 use std::time::Duration;
-use ty_base::Failed;
-use ty_links::{Link, Took};
+use ty_base::{Failed, Link, Took};
 
 /// How long a take waits for bytes, in milliseconds. Then it answers `Quiet`.
 const READ_WAIT: u64 = 100;

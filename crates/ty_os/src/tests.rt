@@ -6,8 +6,7 @@ use std::net::{TcpListener, TcpStream};
 use std::test::Fail;
 use std::thread;
 use std::time::Duration;
-use ty_base::{Failed, Sink, Source, give_all};
-use ty_links::{Came, Clock, Door, Link, Took};
+use ty_base::{Came, Clock, Door, Failed, Link, Sink, Source, Took, give_all};
 
 #[test]
 fn a_source_ends_with_standard_input(rt: HostRuntime) -> Result<(), Fail> {

@@ -14,9 +14,9 @@ use Rattle.ty_account.proofs.Prefixes.{prefix_trans}
 use Rattle.ty_crumb.specs.Crumbs.{CrumbStands}
 use Rattle.ty_crumb.specs.declared.crumb.Crumb.{Crumb}
 use Rattle.ty_chain.specs.Shown.{Shown, Within}
-use Rattle.ty_links.specs.Links.{Sight}
-use Rattle.ty_links.specs.Told.{Told}
-use Rattle.ty_links.proofs.Telling.{Told-then, Told-as, Told-still}
+use Rattle.ty_base.specs.Links.{Sight}
+use Rattle.ty_base.specs.Told.{Told}
+use Rattle.ty_base.proofs.Telling.{Told-then, Told-as, Told-still}
 use Rattle.ty_marks.specs.Marks.{Mark, start, group, ping, AreMarks, Follow, bytes_of, messages_of, end_after, group_numbers}
 use Rattle.ty_marks.proofs.Marks.{talk, pings, messages_of-more}
 use Rattle.ty_session.proofs.Marks.{marks-more, bytes-none}

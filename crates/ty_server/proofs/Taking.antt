@@ -3,11 +3,11 @@ use Rattle.std.proofs.Common.{◌≡◌, ℕ, ◌+◌, ◌≤◌, inl, inr, true
 use Rattle.std.specs.Prelude.{Option}
 use Rattle.std.proofs.lemmas.List.{length-take}
 use Rattle.ty_base.specs.Causes.{Rose}
-use Rattle.ty_links.specs.Links.{Coming, brings, rests, Sight, pieces_left, Takes, FitsIn, IsGiven}
-use Rattle.ty_links.specs.Told.{Told, IsSame}
-use Rattle.ty_links.proofs.Telling.{Told-then, Told-as, Told-still}
-use Rattle.ty_links.specs.declared.link.Took.{Took}
-use Rattle.ty_links.specs.declared.link.Took.TheVariants.{Bytes, Quiet, End}
+use Rattle.ty_base.specs.Links.{Coming, brings, rests, Sight, pieces_left, Takes, FitsIn, IsGiven}
+use Rattle.ty_base.specs.Told.{Told, IsSame}
+use Rattle.ty_base.proofs.Telling.{Told-then, Told-as, Told-still}
+use Rattle.ty_base.specs.declared.link.Took.{Took}
+use Rattle.ty_base.specs.declared.link.Took.TheVariants.{Bytes, Quiet, End}
 use Rattle.ty_server.specs.Exchanges.{LinkSeen, link_seen, left_in, Exchanges, Exchanged, EndTaken, IsLess, HasLess}
 
 -- the bytes of a take

@@ -1,8 +1,8 @@
 -- What is seen of a link, and what a call did to it.
 use Rattle.std.specs.Prelude.{◌≡◌, ◌<◌, ◌≤◌, ◌⊎◌, ℕ, ◌+◌, true, List, [], ◌∷◌, ◌++◌, length, Option}
 use Rattle.ty_base.specs.Causes.{Rose}
-use Rattle.ty_links.specs.Links.{Coming, brings, rests, ends, Sight}
-use Rattle.ty_links.specs.Told.{Told}
+use Rattle.ty_base.specs.Links.{Coming, brings, rests, ends, Sight}
+use Rattle.ty_base.specs.Told.{Told}
 
 -- what a link tells, if anything, and how often it has failed
 pub record LinkSeen : Type 0 where

@@ -10,8 +10,8 @@ use Rattle.ty_wire.specs.Talk.{IsTalk, ping_fits}
 use Rattle.ty_wire.specs.Wire.{frames}
 use Rattle.ty_wire.specs.declared.message.Msg.{Msg}
 use Rattle.ty_account.specs.Known.{Known}
-use Rattle.ty_links.specs.Links.{Sight}
-use Rattle.ty_links.specs.Told.{Told}
+use Rattle.ty_base.specs.Links.{Sight}
+use Rattle.ty_base.specs.Told.{Told}
 use Rattle.ty_session.specs.Client.{Shows}
 use Rattle.ty_session.specs.declared.reason.Reason.{Reason}
 use Rattle.ty_session.specs.declared.reason.Reason.TheVariants.{NoHello, BadHello, BadBytes, BadOrder, NoPong, TooSlow, PeerClosed, LinkFault, Finished}

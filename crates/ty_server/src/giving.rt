@@ -4,8 +4,7 @@ ghost use Rattle.ty_server.specs.Exchanges.{link_seen};
 ghost use Rattle.ty_server.specs.steps.Parts.{SomePart, IsShorter};
 
 use crate::listening::leave;
-use ty_base::PIECE_BYTES;
-use ty_links::Link;
+use ty_base::{Link, PIECE_BYTES};
 use ty_session::{Gone, Reason, Session};
 
 // All that is queued, at most `PIECE_BYTES` at a time. It ends at a fault of the link.

@@ -8,8 +8,7 @@ ghost use Rattle.ty_server.specs.steps.Parts.{greeting_in};
 use crate::answers::Greet;
 use crate::listening::listen;
 use std::alloc::Global;
-use ty_base::NoMemory;
-use ty_links::{Clock, Link};
+use ty_base::{Clock, Link, NoMemory};
 use ty_session::{Gone, Phase, Session};
 
 /// Looks once for the hello of a client, for which the session waits, and whether its time is up. The clock is

@@ -7,7 +7,7 @@ ghost use Rattle.ty_server.specs.Exchanges.{link_seen, HasLess};
 ghost use Rattle.ty_server.specs.steps.Parts.{Part, Works, InTime, KeepsTalk};
 
 use std::alloc::Global;
-use ty_links::{Link, Took};
+use ty_base::{Link, Took};
 use ty_session::{Gone, Reason, Session};
 
 // The most bytes of one look at a client, whose messages are short.

@@ -1,7 +1,7 @@
 // A client is served.
 ghost use Rattle.std.specs.Prelude.{◌≡◌, ◌≤◌, IfOk};
 ghost use Rattle.ty_account.specs.Known.{Known, KnowsMore};
-ghost use Rattle.ty_links.specs.Told.{Told};
+ghost use Rattle.ty_base.specs.Told.{Told};
 ghost use Rattle.ty_session.specs.Outcomes.{IfLeft};
 ghost use Rattle.ty_server.specs.Exchanges.{link_seen};
 ghost use Rattle.ty_server.specs.Served.{GivenFront, IsServedCause, HasEnded};
@@ -13,9 +13,8 @@ use crate::turning::turn;
 use std::alloc::Global;
 use std::sync::Wait;
 use ty_account::{Front, Named};
-use ty_base::NoMemory;
+use ty_base::{Clock, Link, NoMemory};
 use ty_chain::Lobby;
-use ty_links::{Clock, Link};
 use ty_session::{Gone, Reason, Session};
 
 /// Serves one client to its end: waits for its hello, enters at the breadcrumb that is posted in the lobby, and

@@ -15,9 +15,8 @@ use crate::listening::{leave, listen, look, tick};
 use std::alloc::Global;
 use std::sync::Wait;
 use ty_account::Named;
-use ty_base::NoMemory;
+use ty_base::{Clock, Link, NoMemory};
 use ty_chain::{Follower, Step};
-use ty_links::{Clock, Link};
 use ty_session::{Gone, Reason, Session};
 
 /// One turn at a client that has joined the follower's breadcrumb. It looks for the client's bytes where that is

@@ -3,8 +3,8 @@ use Rattle.std.specs.Prelude.{◌≡◌, ◌≤◌, ℕ, ◌++◌, Result, Ok, O
 use mathlib.Core.List.{IsPrefix}
 use Rattle.ty_base.specs.declared.text.NoMemory.{NoMemory as Want}
 use Rattle.ty_chain.specs.Shown.{Shown}
-use Rattle.ty_links.specs.Links.{Sight}
-use Rattle.ty_links.specs.Told.{Told}
+use Rattle.ty_base.specs.Links.{Sight}
+use Rattle.ty_base.specs.Told.{Told}
 use Rattle.ty_session.specs.Story.{Story}
 use Rattle.ty_session.specs.Held.{SessionHeld, SessionStands}
 use Rattle.ty_session.specs.declared.phase.Phase.TheVariants.{Waiting, Greeted}

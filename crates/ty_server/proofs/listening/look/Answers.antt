@@ -1,5 +1,5 @@
-use Rattle.ty_links.specs.declared.link.Took.{Took}
-use Rattle.ty_links.specs.declared.link.Took.TheVariants.{Bytes, Quiet}
+use Rattle.ty_base.specs.declared.link.Took.{Took}
+use Rattle.ty_base.specs.declared.link.Took.TheVariants.{Bytes, Quiet}
 use Rattle.ty_server.proofs.Taking.{exchanged_taken, less_told, bytes_in}
 use Rattle.ty_server.proofs.Working.{keeps_looked, looked, part_heard}
 use Rattle.ty_server.proofs.listening.look.Goals as goal

@@ -1,6 +1,0 @@
-pub mod Doors
-pub mod Links
-pub mod MemoryDoors
-pub mod MemoryLinks
-pub mod Told
-pub mod steps
