@@ -1,4 +1,4 @@
-//! What every other crate speaks of: texts, items, deltas and the book, and the outside: sources, sinks, links, doors and clocks.
+//! What every other crate speaks of: texts, items, deltas and the book, and what stands for the outside.
 #![tactic(auto)]
 
 mod clock;

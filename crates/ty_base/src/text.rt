@@ -112,13 +112,13 @@ impl Text {
     pub fn compare(&self, other: &Text) -> Ordering
         ensures { result ≡ slice_cmp nat_cmp self.now other.now }
     {
-        self.text.as_bytes().cmp(other.text.as_bytes())
+        self.text.as_str().cmp(other.text.as_str())
     }
 
     /// Whether two texts have the same bytes.
     pub fn same(&self, other: &Text) -> bool
         ensures { result ≡ bytes_eq self.now other.now }
     {
-        self.text.as_bytes() == other.text.as_bytes()
+        self.text.as_str() == other.text.as_str()
     }
 }
