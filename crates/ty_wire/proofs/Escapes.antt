@@ -106,3 +106,14 @@ pub stop-mask : (v : List ℕ) → length v ≡ 16
 stop-mask v h =
     let marks = ap₂ (zip2 bit_or) (ap₂ (zip2 bit_or) (zip2_splat hit v 16 34 h) (zip2_splat hit v 16 92 h)) (zip2_splat below v 16 32 h) in
     ap (λ l. mask_l (map (top 7) l) % 2 ^ 64) marks ∙ ap (λ l. mask_l l % 2 ^ 64) (lanes v) ∙ mask_l-mod (map is_stop v) 64 (omega (arith, length-map v is_stop, h))
+
+-- ---- reading
+
+pub escape-plain : (n : ℕ) (s : List ℕ) → n ≤ prefix_len is_plain s → escape (take n s) ≡ take n s
+escape-plain zero s h = refl
+escape-plain (suc n) [] h = absurd (omega arith)
+escape-plain (suc n) (x ∷ s) h =
+    elim (is_plain x) as (λ b. is_plain x ≡ b → suc n ≤ cond b (1 + prefix_len is_plain s) 0 → escape (take (suc n) (x ∷ s)) ≡ take (suc n) (x ∷ s)) [
+      | true ↦ λ e g i. plain_byte x e i ++ escape-plain n s (omega arith) i
+      | false ↦ λ e g. absurd (omega arith)
+    ] refl h

@@ -10,8 +10,10 @@ pub mod Read
 pub mod Readings
 pub mod Sent
 pub mod Short
+pub mod Spelled
 pub mod Spelling
 pub mod Stream
 pub mod Talk
+pub mod Unescaped
 pub mod Utf8
 pub mod Whole

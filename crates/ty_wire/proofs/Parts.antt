@@ -134,7 +134,7 @@ deltas_text-len : (ds : List Delta) → length (deltas_text ds) ≤ 6 * sum_by w
 deltas_text-len [] = omega arith
 deltas_text-len (d ∷ ds) = omega (arith, length-append (delta_text d) (more_deltas ds), delta_text-len d, more_deltas-len ds, sum_by-cons weight d ds)
 
-body-len : (ds : List Delta) → length (body (Kvs ds)) ≤ 6 * sum_by weight ds + 39 * length ds + 20
+pub body-len : (ds : List Delta) → length (body (Kvs ds)) ≤ 6 * sum_by weight ds + 39 * length ds + 20
 body-len ds = omega (arith, length-append (deltas_text ds) (codes "],\"m\":\"kvs\"}"), deltas_text-len ds)
 
 -- ---- a message that is being filled fits
@@ -146,7 +146,7 @@ value-weight : (v : Option (List ℕ)) → option_passes value_fits v ≡ true �
 value-weight None h = omega arith
 value-weight (Some v) h = leb-true (length v) VALUE_BYTES h
 
-one-weight : (d : Delta) → delta_fits d ≡ true → weight d ≤ KEY_BYTES + VALUE_BYTES
+pub one-weight : (d : Delta) → delta_fits d ≡ true → weight d ≤ KEY_BYTES + VALUE_BYTES
 one-weight d h =
     let b = both_of (key_fits d.key) (option_passes value_fits d.value) h in
     omega (arith, leb-true (length d.key) KEY_BYTES b.0, value-weight d.value b.1)

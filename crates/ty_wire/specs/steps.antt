@@ -4,4 +4,5 @@ pub mod Frames
 pub mod Members
 pub mod Placed
 pub mod Sent
+pub mod Spelled
 pub mod Tokens

@@ -2,7 +2,7 @@
 ghost use Rattle.std.specs.Prelude.{◌≡◌, ◌≤◌, ◌<◌, ◌+◌, ◌∷◌, ◌&&◌, length, take, drop, flat_map, nat_lt, nat_le, true, IfOk};
 ghost use Rattle.std.specs.List.{AllByRecursion};
 ghost use Rattle.ty_base.specs.Limits.{deltas_fit};
-ghost use Rattle.ty_wire.specs.Wire.{message_fits};
+ghost use Rattle.ty_wire.specs.Wire.{message_fits, DeltaHasUtf8};
 ghost use Rattle.ty_wire.specs.Cut.{weight as weight_of_delta, cut_deltas};
 ghost use Rattle.ty_wire.specs.declared.message.Msg.TheVariants.{Kvs};
 
@@ -59,8 +59,10 @@ fn is_taken(len: usize, weight: usize, next: &Delta) -> bool
     len < MESSAGE_DELTAS && weight <= VALUE_BYTES && weight_of(next) <= VALUE_BYTES - weight
 }
 
-fn weight_of(delta: &Delta) -> usize
-    ensures { result ≡ weight_of_delta delta.now }
+// How many bytes a delta's key and value have together.
+pub(crate) fn weight_of(delta: &Delta) -> usize
+    ensures value { result ≡ weight_of_delta delta.now }
+    ensures utf8 { DeltaHasUtf8 delta.now }
 {
     let key = delta.key.bytes();
     match &delta.value {

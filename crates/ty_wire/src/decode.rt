@@ -7,12 +7,11 @@ ghost use Rattle.ty_wire.specs.Wire.{Spells, body, parts_fit as parts};
 ghost use Rattle.ty_wire.specs.steps.Members.{text_at as text_of, number_at as number_of, read_kind as kind_of, read_name as name_of, named, kind_at, small_of, hello_of, kvs_of, delta_of, delta_with, deltas_of, msg_by, msg_of};
 ghost use Rattle.ty_wire.specs.steps.Bodies.{IsBody};
 
-use crate::decode_fast::guess;
+use crate::decode_fast::spelled_kvs;
 use crate::encode::{body_of, parts_fit};
 use crate::message::Msg;
 use serde_json::{Category, Value};
 use std::alloc::Global;
-use std::str;
 use ty_base::{BODY_BYTES, Delta, Deltas, Kind, NoMemory, Text, read_status};
 
 // What a body is.
@@ -23,36 +22,14 @@ pub(crate) enum Body {
     Shape,
 }
 
-// What a body is. A KVs body is read by its tokens first, which decides all but those with another
-// spelling.
+// What a body is. A KVs body is read as its one spelling first, which decides most.
 pub(crate) fn read_body(alloc: Global, bytes: &[u8]) -> Result<Body, NoMemory>
     requires { length bytes.now ≤ BODY_BYTES }
     ensures { IfOk result (λ b. IsBody bytes.now b) }
 {
-    match read_kvs(alloc, bytes)? {
+    match spelled_kvs(alloc, bytes)? {
         Some(msg) => Ok(Body::Message(msg)),
         None => read_value(alloc, bytes),
-    }
-}
-
-// The KVs message that these bytes spell, where a guess finds it.
-fn read_kvs(alloc: Global, bytes: &[u8]) -> Result<Option<Msg>, NoMemory>
-    requires { length bytes.now ≤ BODY_BYTES }
-    ensures { IfOk result (λ o. IfSome o (λ m. Spells bytes.now m)) }
-{
-    if !bytes.starts_with(b"{\"kvs\":[") {
-        return Ok(None);
-    }
-    let Ok(text) = str::from_utf8(bytes) else {
-        return Ok(None);
-    };
-    let Some(msg) = guess(alloc, text)? else {
-        return Ok(None);
-    };
-    if is_spelled(alloc, &msg, bytes)? {
-        Ok(Some(msg))
-    } else {
-        Ok(None)
     }
 }
 

@@ -1,93 +1,146 @@
-// A KVs message from its body by one pass over the body's tokens. What comes out need not be right
-// for a body that has another spelling: whoever asks writes the message again and compares. So
-// nothing is claimed here.
+// A KVs message from its body, read from left to right as the one spelling has it. What this way
+// doesn't find is left to whoever asks.
+ghost use Rattle.std.specs.Prelude.{◌≡◌, ◌≤◌, ◌++◌, codes, length, IfOk, IfSome, IsTrue};
+ghost use Rattle.ty_wire.specs.Wire.{Spells, delta_text, kind_text};
+ghost use Rattle.ty_wire.specs.steps.Spelled.{AreSpelled, IsWithValue};
+
+use crate::encode::fits_delta;
 use crate::message::Msg;
-use json::{Reader, Scratch, Token};
+use crate::unquoted::{behind, unquoted};
 use std::alloc::Global;
-use ty_base::{Delta, Deltas, Kind, MESSAGE_DELTAS, NoMemory, Text};
+use ty_base::{BODY_BYTES, Delta, Deltas, Kind, MESSAGE_DELTAS, NoMemory, Text};
 
-// The message that a text which begins as a KVs body seems to be.
-pub(crate) fn guess(alloc: Global, text: &str) -> Result<Option<Msg>, NoMemory> {
-    let mut scratch = Scratch::new(alloc);
-    let Ok(mut reader) = Reader::new(text, &mut scratch) else {
-        return Err(NoMemory);
-    };
-    if !begins(&mut reader) {
+// A delta, and what is behind its text.
+#[derive(Drop)]
+struct Spelled<'a> {
+    delta: Delta,
+    rest: &'a [u8],
+}
+
+// The KVs message that these bytes spell.
+pub(crate) fn spelled_kvs(alloc: Global, bytes: &[u8]) -> Result<Option<Msg>, NoMemory>
+    requires { length bytes.now ≤ BODY_BYTES }
+    ensures { IfOk result (λ o. IfSome o (λ m. Spells bytes.now m)) }
+{
+    let Some(rest) = behind(bytes, b"{\"kvs\":[") else {
         return Ok(None);
+    };
+    match spelled_deltas(alloc, rest)? {
+        Some(deltas) => Ok(Some(Msg::Kvs(deltas))),
+        None => Ok(None),
     }
-    let deltas = guess_deltas(alloc, &mut reader)?;
-    Ok(deltas.map(Msg::Kvs))
 }
 
-fn begins(reader: &mut Reader<'_>) -> bool {
-    if !matches!(reader.next(), Some(Token::BeginObject)) {
-        return false;
-    }
-    if !matches!(reader.next(), Some(Token::Key(_))) {
-        return false;
-    }
-    matches!(reader.next(), Some(Token::BeginArray))
-}
-
-fn guess_deltas(alloc: Global, reader: &mut Reader<'_>) -> Result<Option<Deltas>, NoMemory> {
+// The deltas up to the body's end.
+fn spelled_deltas(alloc: Global, bytes: &[u8]) -> Result<Option<Deltas>, NoMemory>
+    ensures { IfOk result (λ o. IfSome o (λ ds. AreSpelled bytes.now ds)) }
+{
+    let mut scratch = Vec::new(alloc);
     let mut deltas = Deltas::new(alloc);
-    for _ in 0..MESSAGE_DELTAS {
-        match reader.next() {
-            Some(Token::BeginObject) => {}
-            Some(Token::EndArray) => return Ok(Some(deltas)),
-            _ => return Ok(None),
+    let mut rest = bytes;
+    while deltas.len() < MESSAGE_DELTAS {
+        let Some(found) = spelled_delta(alloc, &mut scratch, rest)? else {
+            return Ok(None);
+        };
+        let Spelled { delta, rest: after } = found;
+        if !fits_delta(&delta) {
+            return Ok(None);
         }
-        match guess_delta(alloc, reader)? {
-            Some(delta) => deltas.push(delta)?,
-            None => return Ok(None),
+        deltas.push(delta)?;
+        if is_end(after) {
+            return Ok(Some(deltas));
         }
+        let Some(next) = behind(after, b",") else {
+            return Ok(None);
+        };
+        rest = next;
     }
-    Ok(Some(deltas))
+    Ok(None)
 }
 
-fn guess_delta(alloc: Global, reader: &mut Reader<'_>) -> Result<Option<Delta>, NoMemory> {
-    let Some(key) = text_behind_a_name(reader) else {
+// Whether these bytes are what ends a body.
+fn is_end(bytes: &[u8]) -> bool
+    ensures { IsTrue result → bytes.now ≡ codes "],\"m\":\"kvs\"}" }
+{
+    bytes == b"],\"m\":\"kvs\"}".as_slice()
+}
+
+// The delta at the front.
+fn spelled_delta<'a>(
+    alloc: Global,
+    scratch: &mut Vec<u8>,
+    bytes: &'a [u8],
+) -> Result<Option<Spelled<'a>>, NoMemory>
+    ensures { IfOk result (λ o. IfSome o (λ s. bytes.now ≡ delta_text s.delta ++ s.rest.now)) }
+{
+    let Some(rest) = behind(bytes, b"{\"key\":") else {
         return Ok(None);
     };
-    let key = Text::of(alloc, key)?;
-    let Some(kind) = text_behind_a_name(reader) else {
+    let Some(key) = unquoted(alloc, scratch, rest)? else {
         return Ok(None);
     };
-    let kind = match kind {
-        "new" => Kind::New,
-        "updated" => Kind::Updated,
-        _ => return Ok(deleted(key, reader)),
-    };
-    let Some(value) = text_behind_a_name(reader) else {
+    let Some(rest) = behind(key.rest, b",\"type\":\"") else {
         return Ok(None);
     };
-    let value = Some(Text::of(alloc, value)?);
-    if !matches!(reader.next(), Some(Token::EndObject)) {
+    let Some((kind, rest)) = spelled_kind(rest) else {
         return Ok(None);
-    }
+    };
+    with_value(alloc, scratch, key.text, kind, rest)
+}
+
+// The delta of this key and kind, whose value and closing bracket stand at the front.
+fn with_value<'a>(
+    alloc: Global,
+    scratch: &mut Vec<u8>,
+    key: Text,
+    kind: Kind,
+    bytes: &'a [u8],
+) -> Result<Option<Spelled<'a>>, NoMemory>
+    ensures { IfOk result (λ o. IfSome o (λ s. IsWithValue key kind bytes.now s.delta s.rest.now)) }
+{
     match kind {
-        Kind::Deleted => Ok(None),
-        Kind::New | Kind::Updated => Ok(Some(Delta { key, kind, value })),
+        Kind::Deleted => {
+            let Some(rest) = behind(bytes, b"}") else {
+                return Ok(None);
+            };
+            let delta = Delta {
+                key,
+                kind,
+                value: None,
+            };
+            Ok(Some(Spelled { delta, rest }))
+        }
+        Kind::New | Kind::Updated => {
+            let Some(rest) = behind(bytes, b",\"value\":") else {
+                return Ok(None);
+            };
+            let Some(value) = unquoted(alloc, scratch, rest)? else {
+                return Ok(None);
+            };
+            let Some(rest) = behind(value.rest, b"}") else {
+                return Ok(None);
+            };
+            let delta = Delta {
+                key,
+                kind,
+                value: Some(value.text),
+            };
+            Ok(Some(Spelled { delta, rest }))
+        }
     }
 }
 
-fn deleted(key: Text, reader: &mut Reader<'_>) -> Option<Delta> {
-    if !matches!(reader.next(), Some(Token::EndObject)) {
-        return None;
-    }
-    Some(Delta {
-        key,
-        kind: Kind::Deleted,
-        value: None,
-    })
-}
-
-fn text_behind_a_name<'a>(reader: &mut Reader<'a>) -> Option<&'a str> {
-    if !matches!(reader.next(), Some(Token::Key(_))) {
-        return None;
-    }
-    match reader.next() {
-        Some(Token::String(text)) => Some(text),
-        _ => None,
+// The kind at the front, with the quote behind it.
+fn spelled_kind(bytes: &[u8]) -> Option<(Kind, &[u8])>
+    ensures { IfSome result (λ s. bytes.now ≡ kind_text s.0 ++ (codes "\"" ++ s.1.now)) }
+{
+    if let Some(rest) = behind(bytes, b"updated\"") {
+        Some((Kind::Updated, rest))
+    } else if let Some(rest) = behind(bytes, b"new\"") {
+        Some((Kind::New, rest))
+    } else if let Some(rest) = behind(bytes, b"deleted\"") {
+        Some((Kind::Deleted, rest))
+    } else {
+        None
     }
 }

@@ -1,18 +1,18 @@
 // A message's frame. A KVs message is written where it will stand, the others by `json`'s writer.
-ghost use Rattle.std.specs.Prelude.{◌≡◌, ◌+◌, ◌≤◌, ◌<◌, ◌++◌, length, flat_map, IfOk, OnOk, OnErr, true};
+ghost use Rattle.std.specs.Prelude.{◌≡◌, ◌+◌, ◌≤◌, ◌<◌, ◌++◌, length, drop, flat_map, nat_le, IfOk, OnOk, OnErr, true};
 ghost use Rattle.std.specs.Int.{to_be_bytes, w32};
 ghost use Rattle.std.specs.Str.{IsUtf8};
 ghost use Rattle.json.specs.Filled.{Placed};
-ghost use Rattle.ty_wire.specs.Wire.{IsWire, body, frame, message_fits, parts_fit as parts};
+ghost use Rattle.ty_wire.specs.Wire.{IsWire, body, frame, message_fits, parts_fit as parts, DeltaHasUtf8, ValueHasUtf8};
 ghost use Rattle.ty_base.specs.Passing.{delta_passes, option_passes};
-ghost use Rattle.ty_base.specs.Limits.{key_fits, value_fits as is_short, deltas_fit};
+ghost use Rattle.ty_base.specs.Limits.{key_fits, value_fits as short_value, deltas_fit};
 ghost use Rattle.ty_wire.specs.steps.Tokens.{msg_tokens, kvs_tokens, delta_tokens, number_tokens, value_tokens};
 ghost use Rattle.ty_wire.specs.declared.message.Msg.TheVariants.{ClientHello, Kvs, Status as StatusMsg};
 
 use crate::frame::HEAD_BYTES;
-use crate::kvs::{kind_text, kvs_len, place_kvs};
+use crate::kvs::{kind_text, place_kvs, room};
 use crate::message::Msg;
-use crate::place::{lengthen, place};
+use crate::place::lengthen;
 use crate::quoted::LANES;
 use json::Writer;
 use std::alloc::Global;
@@ -28,19 +28,19 @@ pub fn fits(alloc: Global, msg: &Msg) -> Result<bool, NoMemory>
     if !parts_fit(msg) {
         return Ok(false);
     }
-    Ok(body_len(alloc, msg)? <= BODY_BYTES)
+    has_short_body(alloc, msg)
 }
 
-// The length of a message's body.
-fn body_len(alloc: Global, msg: &Msg) -> Result<usize, NoMemory>
+// Whether a body is within its limit. The room for a message of deltas is where the body is.
+fn has_short_body(alloc: Global, msg: &Msg) -> Result<bool, NoMemory>
     requires { parts msg.now ≡ true }
-    ensures { IfOk result (λ n. n ≡ length (body msg.now)) }
+    ensures { IfOk result (λ b. b ≡ nat_le (length (body msg.now)) BODY_BYTES) }
 {
     match msg {
-        Msg::Kvs(deltas) => Ok(kvs_len(deltas.as_slice())),
+        Msg::Kvs(deltas) => Ok(room(deltas.as_slice()) <= BODY_BYTES),
         msg => {
             let text = body_of(alloc, msg)?;
-            Ok(text.as_slice().len())
+            Ok(text.as_slice().len() <= BODY_BYTES)
         }
     }
 }
@@ -69,23 +69,33 @@ pub(crate) fn write_deltas(deltas: &[Delta], out: &mut Vec<u8>) -> Result<(), No
     ensures err { OnErr result (out.new.items ≡ out.old.items) }
 {
     let at = out.as_slice().len();
-    let len = kvs_len(deltas);
-    lengthen(out, HEAD_BYTES + len + LANES)?;
-    let end = place_frame(out.as_mut_slice(), at, len, deltas);
+    let room = room(deltas);
+    lengthen(out, HEAD_BYTES + room + LANES)?;
+    let end = place_frame(out.as_mut_slice(), at, deltas);
     out.truncate(end);
     Ok(())
 }
 
-// Puts the body of this length behind its length.
-fn place_frame(buf: &mut [u8], at: usize, len: usize, deltas: &[Delta]) -> usize
+// Puts the body, and then its length in front of it.
+fn place_frame(buf: &mut [u8], at: usize, deltas: &[Delta]) -> usize
     requires some { 0 < length deltas.now }
-    requires len { len ≡ length (body (Kvs deltas.now)) }
-    requires short { len ≤ BODY_BYTES }
-    requires room { at + (HEAD_BYTES + len + LANES) ≤ length buf.old }
+    requires short { length (body (Kvs deltas.now)) ≤ BODY_BYTES }
+    requires room { at + (HEAD_BYTES + length (body (Kvs deltas.now)) + LANES) ≤ length buf.old }
     ensures { Placed buf.old buf.new at (frame (Kvs deltas.now)) result }
 {
-    let at = place(buf, at, &(len as u32).to_be_bytes());
-    place_kvs(buf, at, deltas)
+    let end = place_kvs(buf, at + HEAD_BYTES, deltas);
+    place_len(buf, at, end - at - HEAD_BYTES);
+    end
+}
+
+// Puts a length, and leaves what is behind it.
+fn place_len(buf: &mut [u8], at: usize, len: usize)
+    requires short { len ≤ BODY_BYTES }
+    requires room { at + HEAD_BYTES ≤ length buf.old }
+    ensures placed { Placed buf.old buf.new at (to_be_bytes w32 len) (at + HEAD_BYTES) }
+    ensures behind { drop (at + HEAD_BYTES) buf.new ≡ drop (at + HEAD_BYTES) buf.old }
+{
+    buf[at..at + HEAD_BYTES].copy_from_slice(&(len as u32).to_be_bytes());
 }
 
 // Appends a body behind its length.
@@ -257,17 +267,20 @@ fn all_fit(deltas: &[Delta]) -> bool
     deltas.iter().all(|d| fits_delta(d))
 }
 
-fn fits_delta(delta: &Delta) -> bool
-    ensures { result ≡ delta_passes key_fits is_short delta.now }
+pub(crate) fn fits_delta(delta: &Delta) -> bool
+    ensures fits { result ≡ delta_passes key_fits short_value delta.now }
+    ensures utf8 { DeltaHasUtf8 delta.now }
 {
-    delta.key.as_str().len() <= KEY_BYTES && value_fits(&delta.value)
+    let short = value_fits(&delta.value);
+    delta.key.bytes().len() <= KEY_BYTES && short
 }
 
 fn value_fits(value: &Option<Text>) -> bool
-    ensures { result ≡ option_passes is_short value.now }
+    ensures fits { result ≡ option_passes short_value value.now }
+    ensures utf8 { ValueHasUtf8 value.now }
 {
     match value {
-        Some(value) => value.as_str().len() <= VALUE_BYTES,
+        Some(value) => value.bytes().len() <= VALUE_BYTES,
         None => true,
     }
 }

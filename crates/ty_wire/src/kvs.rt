@@ -1,18 +1,53 @@
-// The body of a KVs message: how long it is, and its bytes in a buffer.
-ghost use Rattle.std.specs.Prelude.{◌≡◌, ◌+◌, ◌*◌, ◌<◌, ◌≤◌, length, true};
-ghost use Rattle.std.specs.List.{AllByRecursion};
+// The body of a KVs message: how long it is, or how long at most, and its bytes in a buffer.
+ghost use Rattle.std.specs.Prelude.{◌≡◌, ◌+◌, ◌*◌, ◌<◌, ◌≤◌, length, nat_le, true};
+ghost use Rattle.std.specs.List.{AllByRecursion, sum_by};
 ghost use Rattle.json.specs.Filled.{Placed};
 ghost use Rattle.ty_base.specs.Passing.{delta_passes, option_passes};
 ghost use Rattle.ty_base.specs.Limits.{key_fits, value_fits, deltas_fit};
 ghost use Rattle.ty_wire.specs.Wire.{body, delta_text, value_text, deltas_text, kind_text as kind_word, DeltaHasUtf8, ValueHasUtf8};
+ghost use Rattle.ty_wire.specs.Cut.{weight as weight_of_delta};
 ghost use Rattle.ty_wire.specs.declared.message.Msg.TheVariants.{Kvs};
 
+use crate::cut::weight_of;
 use crate::place::place;
 use crate::quoted::{LANES, escaped_len, place_quoted};
-use ty_base::{Delta, Kind, MESSAGE_DELTAS, Text};
+use ty_base::{BODY_BYTES, Delta, Kind, MESSAGE_DELTAS, Text};
+
+// The most bytes of texts for which there is room without measuring them.
+const LIGHT_BYTES: usize = 65_536;
+
+// Room for the body: as if each byte of light texts had an escape of six bytes, and exactly as much
+// as there must be where they are heavier.
+pub(crate) fn room(deltas: &[Delta]) -> usize
+    requires some { 0 < length deltas.now }
+    requires most { length deltas.now ≤ MESSAGE_DELTAS }
+    requires limits { deltas_fit deltas.now ≡ true }
+    ensures enough { length (body (Kvs deltas.now)) ≤ result }
+    ensures fits { nat_le result BODY_BYTES ≡ nat_le (length (body (Kvs deltas.now))) BODY_BYTES }
+    ensures utf8 { AllByRecursion DeltaHasUtf8 deltas.now }
+{
+    let weight = weigh(deltas);
+    if weight > LIGHT_BYTES {
+        return kvs_len(deltas);
+    }
+    6 * weight + 39 * deltas.len() + 20
+}
+
+fn weigh(deltas: &[Delta]) -> usize
+    requires most { length deltas.now ≤ MESSAGE_DELTAS }
+    requires limits { deltas_fit deltas.now ≡ true }
+    ensures weight { result ≡ sum_by weight_of_delta deltas.now }
+    ensures utf8 { AllByRecursion DeltaHasUtf8 deltas.now }
+{
+    let mut weight = 0;
+    for delta in deltas {
+        weight += weight_of(delta);
+    }
+    weight
+}
 
 // The length of the body.
-pub(crate) fn kvs_len(deltas: &[Delta]) -> usize
+fn kvs_len(deltas: &[Delta]) -> usize
     requires some { 0 < length deltas.now }
     requires most { length deltas.now ≤ MESSAGE_DELTAS }
     requires limits { deltas_fit deltas.now ≡ true }

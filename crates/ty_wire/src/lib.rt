@@ -18,6 +18,7 @@ mod place;
 mod quoted;
 #[cfg(test)]
 mod tests;
+mod unquoted;
 
 pub use cut::cut_kvs;
 pub use encode::{fits, write};

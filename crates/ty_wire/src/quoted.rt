@@ -125,7 +125,7 @@ fn place_part(buf: &mut [u8], at: usize, text: &[u8]) -> Part
 
 // Puts those of the next 16 bytes that come before the first escape. It gives their number.
 #[inline(always)]
-fn place_plain(buf: &mut [u8], at: usize, text: &[u8]) -> usize
+pub(crate) fn place_plain(buf: &mut [u8], at: usize, text: &[u8]) -> usize
     requires { at + LANES ≤ length buf.old }
     ensures within { result ≤ length text.now }
     ensures plain { result ≤ prefix_len is_plain text.now }
@@ -150,7 +150,7 @@ fn place_lanes(buf: &mut [u8], at: usize, text: &[u8])
 
 // How many of the first 16 bytes come before the first escape, or none where there are fewer.
 #[inline(always)]
-pub(crate) fn plain_len(text: &[u8]) -> usize
+fn plain_len(text: &[u8]) -> usize
     ensures within { result ≤ length text.now }
     ensures few { result ≤ LANES }
     ensures none { length text.now < LANES → result ≡ 0 }
@@ -198,7 +198,7 @@ fn place_byte(buf: &mut [u8], at: usize, byte: u8) -> usize
 
 // The letter of a byte's short escape, or 0 where it has none.
 #[inline(always)]
-fn letter(byte: u8) -> u8
+pub(crate) fn letter(byte: u8) -> u8
     ensures { result ≡ escape_letter byte }
 {
     match byte {
@@ -212,7 +212,7 @@ fn letter(byte: u8) -> u8
     }
 }
 
-fn hex(digit: u8) -> u8
+pub(crate) fn hex(digit: u8) -> u8
     requires { digit < 16 }
     ensures { result ≡ digit_char digit }
 {

@@ -182,7 +182,7 @@ fn nested(alloc: Global, depth: usize) -> Result<Vec<u8>, NoMemory> {
 #[test]
 fn hurt_bodies(rt: HostRuntime) -> Result<(), Fail> {
     let alloc = rt.alloc();
-    let not_json: [&[u8]; 8] = [
+    let not_json: [&[u8]; 11] = [
         b"",
         b"oops",
         b"01",
@@ -191,6 +191,9 @@ fn hurt_bodies(rt: HostRuntime) -> Result<(), Fail> {
         br#""\ud800""#,
         br#"{"m":"ping","ts":1}x"#,
         br#"{"m":"ping","ts":1"#,
+        b"{\"kvs\":[{\"key\":\"k\",\"type\":\"new\",\"value\":\"\xff\"}],\"m\":\"kvs\"}",
+        b"{\"kvs\":[{\"key\":\"k\x1f\",\"type\":\"new\",\"value\":\"\"}],\"m\":\"kvs\"}",
+        br#"{"kvs":[{"key":"k","type":"new","value":"v\"}],"m":"kvs"}"#,
     ];
     for body in not_json {
         assert_eq!(rt;
@@ -199,7 +202,7 @@ fn hurt_bodies(rt: HostRuntime) -> Result<(), Fail> {
             "{body:?}"
         );
     }
-    let shape: [&[u8]; 17] = [
+    let shape: [&[u8]; 28] = [
         b"{}",
         b"7",
         br#"{"n":1,"m":"crumb"}"#,
@@ -217,6 +220,17 @@ fn hurt_bodies(rt: HostRuntime) -> Result<(), Fail> {
         br#"{"kvs":[{"key":"k","type":"new"}],"m":"kvs"}"#,
         br#"{"kvs":[{"key":"k","type":"deleted","value":""}],"m":"kvs"}"#,
         br#"{"kvs":[{"key":"k","type":"old","value":""}],"m":"kvs"}"#,
+        br#"{"kvs":[{"key":"\u0041","type":"new","value":""}],"m":"kvs"}"#,
+        br#"{"kvs":[{"key":"\/","type":"new","value":""}],"m":"kvs"}"#,
+        br#"{"kvs":[{"key":"k","type":"new","value":"\u001F"}],"m":"kvs"}"#,
+        br#"{"kvs":[{"key":"k","type":"new","value":"a value of \u000a lines"}],"m":"kvs"}"#,
+        br#"{"kvs":[{"key":"k","type":"new","value":"\u007f"}],"m":"kvs"}"#,
+        br#"{"kvs":[{"key":"k","type":"n\u0065w","value":""}],"m":"kvs"}"#,
+        br#"{"kvs":[{"key":"k","type":"new","value":""} ],"m":"kvs"}"#,
+        br#"{"kvs":[{"key":"k","type":"new","value":""}],"m":"kvs"} "#,
+        br#"{"kvs":[{"key":"k","key":"k","type":"new","value":""}],"m":"kvs"}"#,
+        br#"{"kvs":[{"key":"k","type":"new","value":""}],"m":"kvs","m":"kvs"}"#,
+        br#"{"m":"kvs","kvs":[{"key":"k","type":"new","value":""}]}"#,
     ];
     for body in shape {
         assert_eq!(rt;

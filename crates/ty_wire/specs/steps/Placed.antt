@@ -1,5 +1,5 @@
 -- For private clauses: a text that is put into a buffer part by part.
-use Rattle.std.specs.Prelude.{◌≡◌, ℕ, ◌+◌, List, ◌++◌, length, take, drop}
+use Rattle.std.specs.Prelude.{◌≡◌, ℕ, ◌+◌, ◌≤◌, List, ◌++◌, length, take, drop}
 use Rattle.json.specs.Filled.{Placed}
 use Rattle.json.specs.Print.{escape}
 
@@ -14,3 +14,10 @@ pub record PlacesPart (old new : List ℕ) (at : ℕ) (text : List ℕ) (n end :
   pub piece : List ℕ
   pub split : escape text ≡ piece ++ escape (drop n text)
   pub placed : Placed old new at piece end
+
+-- a text is put that is at the front of the bytes as it stands in a string, and the rest is behind it
+pub record ReadsPart (old new : List ℕ) (at : ℕ) (bytes rest : List ℕ) (end : ℕ) : Type 0 where
+  pub text : List ℕ
+  pub split : bytes ≡ escape text ++ rest
+  pub placed : Placed old new at text end
+  pub less : end + length rest ≤ at + length bytes

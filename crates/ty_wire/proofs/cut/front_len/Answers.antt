@@ -14,7 +14,7 @@ loop-len-preserved c = record {
   some = omega arith;
   within = omega arith;
   weight = ap (λ (n : ℕ). n + c.weight_of-weight-in-loop-len.result) c.loop-len.invariant.weight
-      ∙ ap (λ (n : ℕ). sum_by weight (take c.loop-len.len c.args.deltas.now) + n) (c.weight_of-weight-in-loop-len.ensures ∙ ap weight c.index-deltas-len.is)
+      ∙ ap (λ (n : ℕ). sum_by weight (take c.loop-len.len c.args.deltas.now) + n) (c.weight_of-weight-in-loop-len.ensures.value ∙ ap weight c.index-deltas-len.is)
       ∙ sym (sum_by_push weight (take c.loop-len.len c.args.deltas.now) _)
       ∙ ap (sum_by weight) (sym (take_more c.args.deltas.now c.loop-len.len c.index-deltas-len.result (omega arith)));
   cut = front-more c.args.deltas.now c.loop-len.len c.loop-len.weight c.index-deltas-len.result (omega arith) c.index-deltas-len.is c.loop-len.invariant.weight (sym c.is_taken.ensures ∙ search rules) c.loop-len.invariant.cut;
