@@ -9,7 +9,7 @@ mod sessions;
 
 use chain::publish_and_follow;
 use frames::{read_all, written};
-use puts::{into_btree, into_pairs};
+use puts::{all_keys, into_btree, into_pairs};
 use sessions::{Encoding, Offering, deliver};
 use std::alloc::Global;
 use std::marker::Brand;
@@ -23,17 +23,21 @@ use ty_base::{NoMemory, read_u64};
 use ty_chain::Opening;
 
 const USAGE: &str =
-    "usage: ty_bench puts COUNT KEYS | frames COUNT | sessions COUNT CRUMBS encoded|each [held] | chain CRUMBS FOLLOWERS";
+    "usage: ty_bench puts COUNT KEYS [BATCH] | frames COUNT | sessions COUNT CRUMBS encoded|each [held] | chain CRUMBS FOLLOWERS";
 
 fn main(rt: HostRuntime) -> io::Result<ExitCode> {
     let mut args = env::args(&rt)?.skip(1);
     let mode = args.next();
     let count = number(args.next());
     let keys = number(args.next());
-    let encoding = encoding(args.next());
+    let third = args.next();
+    let batch = third.as_ref().and_then(|w| read_u64(w.as_bytes()));
+    let encoding = encoding(third);
     let offering = offering(args.next());
     match (mode.as_ref().map(|m| m.as_str()), count, keys, encoding) {
-        (Some("puts"), Some(count), Some(keys), None) => measure_puts(&rt, count, keys)?,
+        (Some("puts"), Some(count), Some(keys), None) => {
+            measure_puts(&rt, count, keys, batch.unwrap_or(0))?
+        }
         (Some("frames"), Some(count), None, None) => measure_frames(&rt, count)?,
         (Some("chain"), Some(crumbs), Some(followers), None) => run_chain(&rt, crumbs, followers)?,
         (Some("sessions"), Some(count), Some(crumbs), Some(encoding)) => {
@@ -67,21 +71,26 @@ fn elapsed<R: Clock>(rt: &R, start: Instant) -> io::Result<u128> {
     Ok(start.elapsed(rt)?.as_micros().max(1))
 }
 
-// So many puts of texts over so many keys, into the map and into std's.
-fn measure_puts<R: Clock + Print + AllocGlobal>(rt: &R, count: u64, keys: u64) -> io::Result<()> {
+// So many puts of texts over so many keys, into the map and into std's, each with a batch's old map kept or with none.
+fn measure_puts<R: Clock + Print + AllocGlobal>(
+    rt: &R,
+    count: u64,
+    keys: u64,
+    batch: u64,
+) -> io::Result<()> {
+    let Ok(all) = all_keys(rt.alloc(), keys) else {
+        return rt.println("out of memory");
+    };
     let start = Instant::now(rt)?;
-    let pairs = into_pairs(rt.alloc(), count, keys);
+    let pairs = into_pairs(rt.alloc(), count, &all, batch);
     let map = elapsed(rt, start)?;
     let start = Instant::now(rt)?;
-    let btree = into_btree(rt.alloc(), count, keys);
+    let btree = into_btree(rt.alloc(), count, &all);
     let peer = elapsed(rt, start)?;
     if pairs.is_err() || btree.is_err() {
         return rt.println("out of memory");
     }
-    println!(rt;
-        "puts {count} keys {keys}: map {map} us, BTreeMap {peer} us, {} times as long",
-        map / peer.max(1)
-    )
+    println!(rt; "puts {count} keys {keys} batch {batch}: map {map} us, BTreeMap {peer} us")
 }
 
 // So many frames of 100 deltas each, written and read back in pieces of 65,536 bytes.

@@ -1,7 +1,7 @@
 -- A book's entries leave the worlds of its items, and pass where the items do.
 use Rattle.std.proofs.Common.{◌≡◌, ℕ, suc, ◌^◌, ◌<◌, ◌≤◌, Bool, true, false, cond, List, [], ◌∷◌, ◌++◌, length, take, map, refl, ap, ◌∙◌, arith}
 use Rattle.std.specs.Prelude.{None}
-use Rattle.std.specs.List.{All, AllByRecursion, list_all, filter, range_with_len}
+use Rattle.std.specs.List.{AllByRecursion, list_all, filter, range_with_len}
 use Rattle.std.proofs.lemmas.List.FromFn.{length-range_with_len, length-map-range_with_len}
 use Rattle.ty_base.specs.declared.limits.TheConstants.{INPUT_BYTES}
 use Rattle.ty_base.specs.declared.item.Item.{Item}

@@ -3,7 +3,7 @@ use Rattle.std.proofs.Common.{◌≡◌, ℕ, suc, ◌-◌, true, false, List, [
 use Rattle.std.specs.Prelude.{Option, None, Some, option_map, slice_get, is_some}
 use Rattle.std.specs.Option.{option_or}
 use Rattle.std.specs.List.{AllByRecursion}
-use Rattle.ty_wire.specs.Wire.{IsWire, frames}
+use Rattle.ty_wire.specs.Wire.{IsWire}
 use Rattle.ty_wire.specs.Held.{FramesHeld}
 use Rattle.ty_wire.specs.Stream.{FramesStand, FramesStandBy, IsFault, Brings}
 use Rattle.ty_wire.specs.declared.message.Msg.{Msg}
@@ -15,7 +15,7 @@ use Rattle.ty_client.specs.declared.fault.StreamFault.TheVariants.{Wire}
 use Rattle.ty_client.specs.Places.{place_fault, Judged, judged_by, judged_after, judged}
 use Rattle.ty_client.specs.Rebuilt.{Rebuilt, ats, ats_after, last_held}
 use Rattle.ty_client.specs.Heard.{Hears, Holds, HoldsAfter}
-use Rattle.ty_client.specs.Rebuild.{HasHistory, Staged, RebuildHeld, IsGoodSoFar, IsGoodUnless, RebuildStands, Brought}
+use Rattle.ty_client.specs.Rebuild.{HasHistory, Staged, RebuildHeld, IsGoodSoFar, IsGoodUnless, ConnectionStands, RebuildStands, Brought, BroughtHere}
 use Rattle.ty_client.specs.steps.Stage.{IsJudged, IsHeard}
 use Rattle.ty_client.proofs.Judging.{judged_more, judged_none, ats_more, ats_none, last_more}
 
@@ -86,10 +86,10 @@ heard_on u v s t bytes piece ms msgs at_ends fault wire up up' o k w j =
     }
 
 -- after a fault nothing is heard
-pub nothing_more : (old new : RebuildHeld) (before : List (List ℕ)) (bytes piece : List ℕ) (ms : List Msg) (at_ends : List Rebuilt) (f : StreamFault) → RebuildStands old before bytes ms → old.fault ≡ Some f → new ≡ old → at_ends ≡ [] → Brought old new before bytes piece ms at_ends
-nothing_more old new before bytes piece ms at_ends f s e same a = record {
+nothing_here : (old new : RebuildHeld) (bytes piece : List ℕ) (ms : List Msg) (at_ends : List Rebuilt) (f : StreamFault) → ConnectionStands old bytes ms → old.fault ≡ Some f → new ≡ old → at_ends ≡ [] → BroughtHere old new bytes piece ms at_ends
+nothing_here old new bytes piece ms at_ends f s e same a = record {
   more = [];
-  stands = subst (λ (r : RebuildHeld). RebuildStands r before (bytes ++ piece) (ms ++ [])) (sym same) (subst (λ (l : List Msg). RebuildStands old before (bytes ++ piece) l) (sym (append-nil ms)) (record {
+  stands = subst (λ (r : RebuildHeld). ConnectionStands r (bytes ++ piece) (ms ++ [])) (sym same) (subst (λ (l : List Msg). ConnectionStands old (bytes ++ piece) l) (sym (append-nil ms)) (record {
     unspent = s.unspent;
     hears = record {
       front = s.hears.front;
@@ -103,20 +103,17 @@ nothing_more old new before bytes piece ms at_ends f s e same a = record {
       first = s.hears.first;
     };
     goes_on = subst (λ (o : Option StreamFault). IsGoodUnless o old.unread old.stage (bytes ++ piece) ms) (sym e) tt;
-    held_before = s.held_before;
-    holds = s.holds;
-    held_is = s.held_is;
   }));
   at_ends_are = a ∙ sym (ats_none ms);
   up = ap (λ (r : RebuildHeld). r.up) same ∙ sym (append-nil old.up);
 }
 
-pub brought : (old new : RebuildHeld) (before : List (List ℕ)) (bytes piece : List ℕ) (ms : List Msg) (at_ends : List Rebuilt) (fault : Option StreamFault)
-    → RebuildStands old before bytes ms → old.fault ≡ None
+brought_here : (old new : RebuildHeld) (bytes piece : List ℕ) (ms : List Msg) (at_ends : List Rebuilt) (fault : Option StreamFault)
+    → ConnectionStands old bytes ms → old.fault ≡ None
     → ((b : List ℕ) (l : List Msg) → IsGoodSoFar old.unread old.stage b l → IsHeard new.unread new.stage b piece l at_ends fault old.up new.up)
-    → new.fault ≡ fault → new.held ≡ last_held old.held at_ends → new.spent ≡ false
-    → Brought old new before bytes piece ms at_ends
-brought old new before bytes piece ms at_ends fault s e hear f k n =
+    → new.fault ≡ fault → new.spent ≡ false
+    → BroughtHere old new bytes piece ms at_ends
+brought_here old new bytes piece ms at_ends fault s e hear f n =
     let o : IsGoodSoFar old.unread old.stage bytes ms = subst (λ (x : Option StreamFault). IsGoodUnless x old.unread old.stage bytes ms) e s.goes_on in
     let h : IsHeard new.unread new.stage bytes piece ms at_ends fault old.up new.up = hear bytes ms o in
     record {
@@ -125,15 +122,32 @@ brought old new before bytes piece ms at_ends fault s e hear f k n =
         unspent = n;
         hears = subst (λ (x : Option StreamFault). Hears (bytes ++ piece) (ms ++ h.more) x) (sym f) h.hears;
         goes_on = subst (λ (x : Option StreamFault). IsGoodUnless x new.unread new.stage (bytes ++ piece) (ms ++ h.more)) (sym f) h.goes_on;
-        held_before = s.held_before;
-        holds = s.holds;
-        held_is =
-            k ∙ ap (λ (x : Option Rebuilt). last_held x at_ends) s.held_is ∙ sym (last_more s.held_before (ats ms) at_ends)
-            ∙ ap (last_held s.held_before) (ap (λ (l : List Rebuilt). ats ms ++ l) h.at_ends_are ∙ sym (ats_more [] ms h.more));
       };
       at_ends_are = h.at_ends_are;
       up = h.up_is;
     }
+
+-- what it stands for of its connection, without those before, and back with them
+
+here : (r : RebuildHeld) (before : List (List ℕ)) (bytes : List ℕ) (ms : List Msg) → RebuildStands r before bytes ms → ConnectionStands r bytes ms
+here r before bytes ms s = record { unspent = s.unspent; hears = s.hears; goes_on = s.goes_on }
+
+with_before : (old new : RebuildHeld) (before : List (List ℕ)) (bytes piece : List ℕ) (ms : List Msg) (at_ends : List Rebuilt) → RebuildStands old before bytes ms → new.held ≡ last_held old.held at_ends → BroughtHere old new bytes piece ms at_ends → Brought old new before bytes piece ms at_ends
+with_before old new before bytes piece ms at_ends s k h = record {
+  more = h.more;
+  stands = record {
+    unspent = h.stands.unspent;
+    hears = h.stands.hears;
+    goes_on = h.stands.goes_on;
+    held_before = s.held_before;
+    holds = s.holds;
+    held_is =
+        k ∙ ap (λ (x : Option Rebuilt). last_held x at_ends) s.held_is ∙ sym (last_more s.held_before (ats ms) at_ends)
+        ∙ ap (last_held s.held_before) (ap (λ (l : List Rebuilt). ats ms ++ l) h.at_ends_are ∙ sym (ats_more [] ms h.more));
+  };
+  at_ends_are = h.at_ends_are;
+  up = h.up;
+}
 
 -- connections
 
@@ -153,19 +167,20 @@ hears_nothing u k w = record {
 pub good_nothing : (u : FramesHeld) (s : Staged) → FramesStand u [] [] → u.fault ≡ None → s ≡ record { frame = 1; status = None; fresh = false; number = None; pairs = [] } → IsGoodSoFar u s [] []
 good_nothing u s k w e = record { frames_stand = k; no_wire_fault = w; good = judged_none []; stage_is = e }
 
+pub begins_here : (r : RebuildHeld) → r.spent ≡ false → r.fault ≡ None → r.unread.fault ≡ None → FramesStand r.unread [] [] → r.stage ≡ record { frame = 1; status = None; fresh = false; number = None; pairs = [] } → ConnectionStands r [] []
+begins_here r n f w k s = record {
+  unspent = n;
+  hears = subst (λ (x : Option StreamFault). Hears [] [] x) (sym f) (hears_nothing r.unread k w);
+  goes_on = subst (λ (x : Option StreamFault). IsGoodUnless x r.unread r.stage [] []) (sym f) (good_nothing r.unread r.stage k w s);
+}
+
 pub begins : (r : RebuildHeld) (connections : List (List ℕ)) → r.spent ≡ false → r.fault ≡ None → r.unread.fault ≡ None → FramesStand r.unread [] [] → r.stage ≡ record { frame = 1; status = None; fresh = false; number = None; pairs = [] } → Holds connections r.held → RebuildStands r connections [] []
 unfolding ats_after last_held
 begins r connections n f w k s h =
-    record {
-      unspent = n;
-      hears = subst (λ (x : Option StreamFault). Hears [] [] x) (sym f) (hears_nothing r.unread k w);
-      goes_on = subst (λ (x : Option StreamFault). IsGoodUnless x r.unread r.stage [] []) (sym f) (good_nothing r.unread r.stage k w s);
-      held_before = r.held;
-      holds = h;
-      held_is = refl;
-    }
+    let here : ConnectionStands r [] [] = begins_here r n f w k s in
+    record { unspent = n; hears = here.hears; goes_on = here.goes_on; held_before = r.held; holds = h; held_is = refl }
 
-holds_more : (held : Option Rebuilt) (connections : List (List ℕ)) (now : Option Rebuilt) (bytes : List ℕ) (ms : List Msg) (fault : Option StreamFault) → HoldsAfter held connections now → Hears bytes ms fault → HoldsAfter held (connections ++ bytes ∷ []) (last_held now (ats ms))
+pub holds_more : (held : Option Rebuilt) (connections : List (List ℕ)) (now : Option Rebuilt) (bytes : List ℕ) (ms : List Msg) (fault : Option StreamFault) → HoldsAfter held connections now → Hears bytes ms fault → HoldsAfter held (connections ++ bytes ∷ []) (last_held now (ats ms))
 holds_more held [] now bytes ms fault h k = (ms, fault, k, ap (λ (x : Option Rebuilt). last_held x (ats ms)) h)
 holds_more held (c ∷ cs) now bytes ms fault (l, f, x, h) k = (l, f, x, holds_more (last_held held (ats l)) cs now bytes ms fault h k)
 
@@ -199,16 +214,24 @@ pub none_of : {A : Type 0} (o : Option A) → is_some o ≡ false → o ≡ None
 none_of None h = refl
 none_of (Some x) h = cc
 
-pub brought_from : (v old new : RebuildHeld) (before : List (List ℕ)) (bytes piece : List ℕ) (ms : List Msg) (at_ends : List Rebuilt) (fault : Option StreamFault)
+pub brought_from : (v old new : RebuildHeld) (bytes piece : List ℕ) (ms : List Msg) (at_ends : List Rebuilt) (fault : Option StreamFault)
     → v ≡ old → v.fault ≡ None
     → ((b : List ℕ) (l : List Msg) → IsGoodSoFar v.unread v.stage b l → IsHeard new.unread new.stage b piece l at_ends fault v.up new.up)
-    → new.fault ≡ fault → new.held ≡ last_held v.held at_ends → new.spent ≡ false
-    → RebuildStands old before bytes ms → Brought old new before bytes piece ms at_ends
-brought_from v old new before bytes piece ms at_ends fault e n hear f k u =
-    let P : RebuildHeld → Type 0 = λ r. RebuildStands r before bytes ms → Brought r new before bytes piece ms at_ends in
-    subst P e (λ s. brought v new before bytes piece ms at_ends fault s n hear f k u)
+    → new.fault ≡ fault → new.spent ≡ false
+    → ConnectionStands old bytes ms → BroughtHere old new bytes piece ms at_ends
+brought_from v old new bytes piece ms at_ends fault e n hear f u =
+    let P : RebuildHeld → Type 0 = λ r. ConnectionStands r bytes ms → BroughtHere r new bytes piece ms at_ends in
+    subst P e (λ s. brought_here v new bytes piece ms at_ends fault s n hear f u)
 
-pub nothing_from : (v old : RebuildHeld) (before : List (List ℕ)) (bytes piece : List ℕ) (ms : List Msg) (at_ends : List Rebuilt) → v ≡ old → is_some v.fault ≡ true → at_ends ≡ [] → RebuildStands old before bytes ms → Brought old old before bytes piece ms at_ends
-nothing_from v old before bytes piece ms at_ends e t a s =
+pub nothing_from : (v old : RebuildHeld) (bytes piece : List ℕ) (ms : List Msg) (at_ends : List Rebuilt) → v ≡ old → is_some v.fault ≡ true → at_ends ≡ [] → ConnectionStands old bytes ms → BroughtHere old old bytes piece ms at_ends
+nothing_from v old bytes piece ms at_ends e t a s =
     let f : (x : StreamFault) × (v.fault ≡ Some x) = some_of v.fault t in
-    nothing_more old old before bytes piece ms at_ends f.0 s (sym (ap (λ (r : RebuildHeld). r.fault) e) ∙ f.1) refl a
+    nothing_here old old bytes piece ms at_ends f.0 s (sym (ap (λ (r : RebuildHeld). r.fault) e) ∙ f.1) refl a
+
+-- the same over the connections before
+
+pub brought_all : (v old new : RebuildHeld) (before : List (List ℕ)) (bytes piece : List ℕ) (ms : List Msg) (at_ends : List Rebuilt)
+    → v ≡ old → (ConnectionStands old bytes ms → BroughtHere old new bytes piece ms at_ends) → new.held ≡ last_held v.held at_ends
+    → RebuildStands old before bytes ms → Brought old new before bytes piece ms at_ends
+brought_all v old new before bytes piece ms at_ends e h k s =
+    with_before old new before bytes piece ms at_ends s (k ∙ ap (λ (r : RebuildHeld). last_held r.held at_ends) e) (h (here old before bytes ms s))

@@ -117,7 +117,7 @@ following_begins brief u s l h c k f e = record {
   written = subst (λ (x : List Rebuilt). Appends h h (rebuilt_text brief x)) (sym (ats_none [])) (Appends-same h);
 }
 
-text_more : (brief : Bool) (ms more : List Msg) → rebuilt_text brief (ats (ms ++ more)) ≡ rebuilt_text brief (ats ms) ++ rebuilt_text brief (ats_after ms more)
+pub text_more : (brief : Bool) (ms more : List Msg) → rebuilt_text brief (ats (ms ++ more)) ≡ rebuilt_text brief (ats ms) ++ rebuilt_text brief (ats_after ms more)
 text_more brief ms more = ap (rebuilt_text brief) (ats_more [] ms more) ∙ flat_map-append (at_text brief) (ats ms) (ats_after ms more)
 
 pub following_more : (brief : Bool) (u v : FramesHeld) (s t : Staged) (l l' l'' h h' h'' : Option (List ℕ)) (taken count : ℕ) (piece : List ℕ) (f : Following brief u s l l' h h' taken)
@@ -133,7 +133,7 @@ following_more brief u v s t l l' l'' h h' h'' taken count piece f c n g = recor
   written = subst (λ (x : List ℕ). Appends h h'' x) (sym (text_more brief f.ms g.more)) (Appends-then h h' h'' (rebuilt_text brief (ats f.ms)) (rebuilt_text brief (ats_after f.ms g.more)) f.written g.given);
 }
 
-open_of : (u : FramesHeld) (s : Staged) (bytes : List ℕ) (ms : List Msg) → IsGoodSoFar u s bytes ms → FramesOpen u bytes ms
+pub open_of : (u : FramesHeld) (s : Staged) (bytes : List ℕ) (ms : List Msg) → IsGoodSoFar u s bytes ms → FramesOpen u bytes ms
 open_of u s bytes ms o = subst (λ (x : Option WireFault). FramesStandBy x u bytes ms) o.no_wire_fault o.frames_stand.1
 
 pub following_short : (brief : Bool) (u : FramesHeld) (s : Staged) (l l' h h' : Option (List ℕ)) (taken : ℕ) → Following brief u s l l' h h' taken → taken < INPUT_BYTES
@@ -148,7 +148,7 @@ followed_kept brief u s old new l' h' taken f c e = record {
   written = subst (λ (x : Option (List ℕ)). Appends old.sink.held x (rebuilt_text brief (ats f.ms))) (sym e) f.written;
 }
 
-nothing_of : (rest : List ℕ) → length rest ≡ 0 → rest ≡ []
+pub nothing_of : (rest : List ℕ) → length rest ≡ 0 → rest ≡ []
 nothing_of [] e = refl
 nothing_of (x ∷ rest) e = absurd (omega arith)
 

@@ -3,6 +3,7 @@ pub mod Progress
 pub mod Connections
 pub mod Printed
 pub mod Followed
+pub mod Linked
 pub mod Snapshots
 pub mod Talks
 pub mod Told

@@ -4,5 +4,6 @@ pub mod Heard
 pub mod Rebuild
 pub mod Text
 pub mod Followed
+pub mod Linked
 pub mod Worlds
 pub mod steps

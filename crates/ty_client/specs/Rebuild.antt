@@ -53,6 +53,12 @@ abbrev pub IsGoodUnless : Option StreamFault → FramesHeld → Staged → List 
 IsGoodUnless None unread stage bytes ms = IsGoodSoFar unread stage bytes ms
 IsGoodUnless (Some f) unread stage bytes ms = Unit {0}
 
+-- of this connection alone: its bytes so far, and the messages before their first fault
+pub record ConnectionStands (r : RebuildHeld) (bytes : List ℕ) (ms : List Msg) : Type 0 where
+  pub unspent : r.spent ≡ false
+  pub hears : Hears bytes ms r.fault
+  pub goes_on : IsGoodUnless r.fault r.unread r.stage bytes ms
+
 -- it stands for the connections before, and this one so far: its bytes, and the messages before
 -- their first fault
 pub record RebuildStands (r : RebuildHeld) (before : List (List ℕ)) (bytes : List ℕ) (ms : List Msg) : Type 0 where
@@ -68,5 +74,12 @@ pub record RebuildStands (r : RebuildHeld) (before : List (List ℕ)) (bytes : L
 pub record Brought (old new : RebuildHeld) (before : List (List ℕ)) (bytes piece : List ℕ) (ms : List Msg) (at_ends : List Rebuilt) : Type 0 where
   pub more : List Msg
   pub stands : RebuildStands new before (bytes ++ piece) (ms ++ more)
+  pub at_ends_are : at_ends ≡ ats_after ms more
+  pub up : new.up ≡ old.up ++ frames (pongs more)
+
+-- the same of this connection alone
+pub record BroughtHere (old new : RebuildHeld) (bytes piece : List ℕ) (ms : List Msg) (at_ends : List Rebuilt) : Type 0 where
+  pub more : List Msg
+  pub stands : ConnectionStands new (bytes ++ piece) (ms ++ more)
   pub at_ends_are : at_ends ≡ ats_after ms more
   pub up : new.up ≡ old.up ++ frames (pongs more)

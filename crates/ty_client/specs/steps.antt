@@ -1,4 +1,5 @@
 -- Words of private clauses.
 pub mod Given
+pub mod Links
 pub mod Pieces
 pub mod Stage

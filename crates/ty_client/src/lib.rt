@@ -3,6 +3,9 @@
 #![tactic(auto)]
 
 mod at;
+mod connection;
+#[cfg(test)]
+mod connection_tests;
 mod fault;
 mod follower;
 mod heard;
@@ -14,6 +17,7 @@ mod tests;
 mod text;
 
 pub use at::{At, Ats};
+pub use connection::follow_link;
 pub use fault::StreamFault;
 pub use follower::{FollowFault, follow};
 pub use heard::Heard;

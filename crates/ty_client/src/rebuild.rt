@@ -7,7 +7,7 @@ ghost use Rattle.ty_wire.specs.declared.message.Msg.{Msg as Message};
 ghost use Rattle.ty_wire.specs.declared.message.Msg.TheVariants.{ClientHello};
 ghost use Rattle.ty_client.specs.Rebuilt.{last_held};
 ghost use Rattle.ty_client.specs.Heard.{Holds};
-ghost use Rattle.ty_client.specs.Rebuild.{HasHistory, RebuildStands, Brought, IsGoodSoFar};
+ghost use Rattle.ty_client.specs.Rebuild.{HasHistory, ConnectionStands, RebuildStands, Brought, BroughtHere, IsGoodSoFar};
 ghost use Rattle.ty_client.specs.steps.Stage.{IsHeard};
 ghost use Rattle.ty_client.specs.declared.fault.StreamFault.{StreamFault as Fault};
 
@@ -107,6 +107,9 @@ impl Rebuild {
         ensures heard { IfOk result (λ h. (before : List (List ℕ)) (so_far : List ℕ) (ms : List Message)
             → RebuildStands self.old before so_far ms
             → Brought self.old self.new before so_far bytes.now ms h.ats) }
+        ensures here { IfOk result (λ h. (so_far : List ℕ) (ms : List Message)
+            → ConnectionStands self.old so_far ms
+            → BroughtHere self.old self.new so_far bytes.now ms h.ats) }
         ensures held { IfOk result (λ h. self.new.held ≡ last_held self.old.held h.ats) }
         ensures fault { IfOk result (λ h. h.fault ≡ self.new.fault) }
         ensures stays { IfOk result (λ h. (f : Fault) → self.old.fault ≡ Some f
@@ -151,6 +154,7 @@ impl Rebuild {
             → RebuildStands self.new (before ++ bytes ∷ []) [] [] }
         ensures begins { (connections : List (List ℕ)) → Holds connections self.old.held
             → RebuildStands self.new connections [] [] }
+        ensures here { ConnectionStands self.new [] [] }
         ensures fault { self.new.fault ≡ None }
         ensures unspent { self.new.spent ≡ false }
         ensures held { self.new.held ≡ self.old.held }
@@ -177,6 +181,9 @@ impl Rebuild {
     pub fn left(&self) -> u64
         ensures rest { (before : List (List ℕ)) (bytes rest : List ℕ) (ms : List Message)
             → RebuildStands self.now before bytes ms
+            → self.now.fault ≡ None → Reads bytes ms rest → result ≡ length rest }
+        ensures here { (bytes rest : List ℕ) (ms : List Message)
+            → ConnectionStands self.now bytes ms
             → self.now.fault ≡ None → Reads bytes ms rest → result ≡ length rest }
         ensures fault { OnSome self.now.fault (result ≡ 0) }
     {

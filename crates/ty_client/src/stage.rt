@@ -262,7 +262,7 @@ fn changed(alloc: Global, pairs: Pairs, delta: &Delta) -> Result<Pairs, NoMemory
     ensures { IfOk result (λ p. pairs_of p ≡ changed_by (pairs_of pairs) delta.now) }
 {
     match &delta.value {
-        Some(value) => pairs.put_in(alloc, &delta.key, value),
-        None => pairs.remove_in(alloc, &delta.key),
+        Some(value) => Ok(pairs.put_in(alloc, &delta.key, value)?.0),
+        None => Ok(pairs.remove_in(alloc, &delta.key)?.0),
     }
 }

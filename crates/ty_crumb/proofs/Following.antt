@@ -16,7 +16,7 @@ use Rattle.ty_crumb.specs.Crumbs.{world_of, most_fresh}
 use Rattle.ty_crumb.specs.steps.Following.{IsLike, IsMadeOf}
 use Rattle.ty_crumb.proofs.Crumbs.{stands_next, made_for}
 use Rattle.ty_crumb.proofs.PendingChanges.{Makes, nothing_told, made_world, made_entries, no_entries}
-use Rattle.ty_crumb.proofs.Spent.{most_rises, most_of_batch}
+use Rattle.ty_crumb.proofs.Spent.{most_of_batch}
 
 pub if_ok-map : {A E : Type 0} {P Q : A → Type 0} → ((x : A) → P x → Q x) → (r : Result A E) → IfOk r P → IfOk r Q
 if_ok-map f (Ok x) h = f x h
@@ -47,9 +47,9 @@ nothing_made held last items cut now map ds status like made t =
 
 pub next_made : (held last next : Crumb) (items : List Item) (cut now : ℕ) (keys : List (List ℕ × Option (List ℕ))) → IsLike held last → Makes (world_of last) items (pairs next.pairs) next.deltas next.status
     → false ≡ ((length next.deltas == 0) && same_status last.status next.status) → next.number ≡ last.number + 1 → next.cut ≡ cut → next.at ≡ now
-    → pairs next.pairs ≡ fold changed (pairs last.pairs) next.deltas → fresh last.pairs next.pairs ≤ most_fresh (length (pairs last.pairs)) (length next.deltas)
-    → length next.deltas ≤ length keys → keys ≡ pending items → IsMadeOf held items cut now (Next next)
-next_made held last next items cut now keys like made t number at_cut at p few fewer all =
+    → pairs next.pairs ≡ fold changed (pairs last.pairs) next.deltas → fresh last.pairs next.pairs ≤ most_fresh (length (pairs last.pairs)) (length keys)
+    → keys ≡ pending items → IsMadeOf held items cut now (Next next)
+next_made held last next items cut now keys like made t number at_cut at p few all =
     let w = world_of held in
     let here = makes_like held last items (pairs next.pairs) next.deltas next.status like made in
     let told = t ∙ ap (λ x. (length next.deltas == 0) && same_status x next.status) (sym like.status) ∙ nothing_told w items (pairs next.pairs) next.deltas next.status held.ascending here in
@@ -58,14 +58,13 @@ next_made held last next items cut now keys like made t number at_cut at p few f
     let led : pairs next.pairs ≡ fold changed (pairs held.pairs) next.deltas = p ∙ ap (λ s. fold changed (pairs s) next.deltas) (sym like.pairs) in
     let F : Shape → Type 0 = λ s. fresh s next.pairs ≤ most_fresh (length (pairs s)) (count_by is_update items) in
     let most = most_of_batch (length (pairs last.pairs)) items keys all in
-    let rise = most_rises (length (pairs last.pairs)) (length next.deltas) (length keys) fewer in
     record {
       unchanged = told;
       entries = entry;
       number = n;
       at = at;
       world = made_world w items (pairs next.pairs) next.deltas next.status (world_of next) here refl refl;
-      few = subst F (sym like.pairs) (omega (arith, few, most, rise));
+      few = subst F (sym like.pairs) (omega (arith, few, most));
       stands = λ es h. stands_next held next es h n led;
       book = λ ended before closed after at stands. made_for held (Next next) ended before items cut closed after at stands entry (stands_next held next (book false before) stands n led);
     }

@@ -1,3 +1,4 @@
+pub mod Applied
 pub mod Book
 pub mod Crumbs
 pub mod Following

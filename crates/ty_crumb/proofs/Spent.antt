@@ -34,7 +34,7 @@ squares_rise a b h = omega (arith, square a, square b, mul-le a a b b h h)
 heights_rise : (a b : ℕ) → a ≤ b → greatest_height a ≤ greatest_height b
 heights_rise a b h = height_greatest b (greatest_height a) (omega (arith, height_within a, squares_rise (a + 1) (b + 1) (omega arith)))
 
-pub most_rises : (size a b : ℕ) → a ≤ b → most_fresh size a ≤ most_fresh size b
+most_rises : (size a b : ℕ) → a ≤ b → most_fresh size a ≤ most_fresh size b
 most_rises size a b h =
     mul-le (3 * a) (greatest_height (size + a) + 1) (3 * b) (greatest_height (size + b) + 1) (omega arith)
     (omega (arith, heights_rise (size + a) (size + b) (omega arith)))
@@ -90,26 +90,8 @@ spent_more old now next all before left k v more s ascending low p few =
       few = omega (arith, s.few, sum, few, h, kept, parts);
     }
 
--- a call that makes the next map, or gives up
-pub spent_call : {E : Type 0} (r : Result Shape E) (old now : Shape) (all before left : ℕ) (k : List ℕ) (v : Option (List ℕ)) → left < before → Spent old now all before
-    → IsAscending (pairs now) → 2 ^ height now ≤ (length (pairs now) + 1) ^ 2 → IfOk r (λ t. pairs t ≡ put_value (pairs now) k v) → IfOk r (λ t. fresh now t ≤ 3 * (height now + 1))
-    → IfOk r (λ t. Spent old t all left)
-spent_call (Ok t) old now all before left k v more s a low p few = spent_more old now t all before left k v more s a low p few
-spent_call (Err e) old now all before left k v more s a low p few = tt
-
 pub spent_end : (old now : Shape) (all left : ℕ) → Spent old now all left → fresh old now ≤ most_fresh (length (pairs old)) all
 spent_end old now all left s = omega (arith, s.few)
-
--- The deltas of the next pending key
-
-pub told_next : (f : List ℕ × Option (List ℕ) → Option Delta) (ds pushed : List Delta) (d : Delta) (p : List ℕ × Option (List ℕ)) (before rest : List (List ℕ × Option (List ℕ))) (told : List Delta)
-    → pushed ≡ ds ++ d ∷ [] → before ≡ p ∷ rest → f p ≡ Some d → ds ++ filter_map f before ≡ told → pushed ++ filter_map f rest ≡ told
-told_next f ds pushed d p before rest told push steps is held =
-    ap (λ z. z ++ filter_map f rest) push
-    ∙ append_assoc ds (d ∷ []) (filter_map f rest)
-    ∙ ap (λ o. ds ++ cons_option o (filter_map f rest)) (sym is)
-    ∙ ap (λ z. ds ++ filter_map f z) (sym steps)
-    ∙ held
 
 -- A batch
 

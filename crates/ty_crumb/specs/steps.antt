@@ -1,4 +1,5 @@
 -- Words that only private clauses need.
+pub mod Applied
 pub mod Deltas
 pub mod Following
 pub mod Spent

@@ -1,22 +1,22 @@
 // The next breadcrumb.
-ghost use Rattle.std.specs.Prelude.{◌≡◌, ◌==◌, ◌&&◌, ◌+◌, ◌<◌, ◌≤◌, ℕ, Bool, false, List, ◌++◌, length, IfOk};
-ghost use Rattle.std.specs.Option.{option_copied};
-ghost use Rattle.std.specs.List.{fold, filter_map, count_by};
+ghost use Rattle.std.specs.Prelude.{◌≡◌, ◌==◌, ◌&&◌, ◌+◌, ◌*◌, ◌^◌, ◌<◌, ◌≤◌, ℕ, Bool, false, cond, List, [], ◌++◌, length, Some, None, IfOk, IfNone, OnOk};
+ghost use Rattle.std.specs.List.{fold, filter_map, count_by, cons_option};
 ghost use Rattle.ty_base.specs.declared.item.Item.{Item};
 ghost use Rattle.ty_base.specs.declared.entry.Entry.{Entry};
 ghost use Rattle.ty_base.specs.declared.limits.TheConstants.{INPUT_BYTES};
 ghost use Rattle.ty_base.specs.Statuses.{same_status as same};
-ghost use Rattle.ty_base.specs.Feed.{after, book, same_world, change, changed, get, is_update};
+ghost use Rattle.ty_base.specs.Feed.{after, book, same_world, change, changed, get, put_value, is_update};
+ghost use Rattle.ty_map.specs.Ascending.{IsAscending};
 ghost use Rattle.ty_map.specs.Fresh.{fresh};
-ghost use Rattle.ty_map.specs.Shape.{Shape, pairs};
+ghost use Rattle.ty_map.specs.Shape.{pairs, height};
 ghost use Rattle.ty_dedupe.specs.Pending.{pending, last_status};
 ghost use Rattle.ty_base.specs.Batches.{IsBatch, IsClosed, IsNextBatch};
 ghost use Rattle.ty_crumb.specs.Batches.{next_entries};
 ghost use Rattle.ty_crumb.specs.declared.crumb.Crumb.{Crumb as ACrumb};
 ghost use Rattle.ty_crumb.specs.Crumbs.{CrumbStands, world_of, is_unchanged, IfNext, entries_of, IsMadeFor, made_of, IfGivenBack, added, most_fresh};
-ghost use Rattle.ty_crumb.specs.steps.Deltas.{updated, deleted};
+ghost use Rattle.ty_crumb.specs.steps.Applied.{AreApart};
+ghost use Rattle.ty_crumb.specs.steps.Deltas.{updated, deleted, delta_of};
 ghost use Rattle.ty_crumb.specs.steps.Following.{IsLike, IsMadeOf};
-ghost use Rattle.ty_crumb.specs.steps.Spent.{Spent};
 
 use crate::crumb::Crumb;
 use std::alloc::Global;
@@ -132,14 +132,30 @@ fn made_after(
         → IfOk result (λ f. IsMadeOf held items.now cut now (made_of f)) }
     ensures given_back { IfOk result (λ f. IfGivenBack f (λ c. c ≡ last)) }
 {
-    let Drained { pairs, status } = drained(alloc, items)?;
-    let status = status.unwrap_or(last.status);
-    let deltas = deltas_from(alloc, &last.pairs, pairs.into_vec())?;
-    if is_same(last.status, status, &deltas) {
-        return Ok(Followed::Unchanged(last));
+    let Drained {
+        pairs: pending,
+        status,
+    } = drained(alloc, items)?;
+    let Crumb {
+        number,
+        status: before,
+        cut: last_cut,
+        at,
+        pairs,
+        deltas: last_deltas,
+    } = last;
+    let status = status.unwrap_or(before);
+    let (pairs, deltas) = changed_by(alloc, pairs, pending.into_vec())?;
+    if is_same(before, status, &deltas) {
+        return Ok(Followed::Unchanged(Crumb {
+            number,
+            status: before,
+            cut: last_cut,
+            at,
+            pairs,
+            deltas: last_deltas,
+        }));
     }
-    let Crumb { number, pairs, .. } = last;
-    let pairs = changed_all(alloc, pairs, deltas.as_slice())?;
     Ok(Followed::Next(Crumb {
         number: number + 1,
         status,
@@ -179,53 +195,88 @@ fn drained(alloc: Global, items: &[Item]) -> Result<Drained, NoMemory>
     buffer.drain(alloc)
 }
 
-// What the pending keys change in a map.
-fn deltas_from(
+// The map in which each pending key has its value, and what that changes.
+fn changed_by(
     alloc: Global,
-    last: &Pairs,
+    last: Pairs,
     pending: Vec<(Text, Option<Text>)>,
-) -> Result<Deltas, NoMemory>
-    ensures deltas { IfOk result (λ ds. ds
-        ≡ filter_map (λ p. change p.0 (get (pairs last.now) p.0) p.1) pending.items) }
-    ensures few { IfOk result (λ ds. length ds ≤ length pending.items) }
+) -> Result<(Pairs, Deltas), NoMemory>
+    requires { AreApart pending.items }
+    ensures deltas { IfOk result (λ r. r.1
+        ≡ filter_map (λ p. change p.0 (get (pairs last) p.0) p.1) pending.items) }
+    ensures pairs { IfOk result (λ r. pairs r.0 ≡ fold changed (pairs last) r.1) }
+    ensures same { IfOk result (λ r. r.1 ≡ [] → r.0 ≡ last) }
+    ensures few { IfOk result (λ r. fresh last r.0
+        ≤ most_fresh (length (pairs last)) (length pending.items)) }
 {
+    let mut map = last;
     let mut deltas = Deltas::new(alloc);
     for (key, value) in pending {
-        let held = last.get(&key);
-        if let Some(delta) = change_of(held, key, value) {
-            deltas.push(delta)?;
-        }
+        let (after, delta) = applied(alloc, map, key, value)?;
+        map = after;
+        add(&mut deltas, delta)?;
     }
-    Ok(deltas)
+    Ok((map, deltas))
 }
 
-// The map with all changes.
-fn changed_all(alloc: Global, last: Pairs, deltas: &[Delta]) -> Result<Pairs, NoMemory>
-    ensures pairs { IfOk result (λ p. pairs p ≡ fold changed (pairs last) deltas.now) }
-    ensures few { IfOk result (λ p. fresh last p ≤ most_fresh (length (pairs last)) (length deltas.now)) }
+// Adds a delta, if there is one.
+fn add(deltas: &mut Deltas, delta: Option<Delta>) -> Result<(), NoMemory>
+    ensures { OnOk result (deltas.new ≡ deltas.old ++ cons_option delta []) }
 {
-    let mut pairs = last;
-    for delta in deltas {
-        pairs = applied(alloc, pairs, delta)?;
+    match delta {
+        None => Ok(()),
+        Some(delta) => deltas.push(delta),
     }
-    Ok(pairs)
 }
 
-// How a key's value changes from the one that is held, if it does.
-fn change_of(held: Option<&Text>, key: Text, value: Option<Text>) -> Option<Delta>
-    ensures { result ≡ change key (option_copied held.entry) value }
+// The map in which a pending key has its value, and what that changes.
+fn applied(
+    alloc: Global,
+    map: Pairs,
+    key: Text,
+    value: Option<Text>,
+) -> Result<(Pairs, Option<Delta>), NoMemory>
+    ensures delta { IfOk result (λ r. r.1 ≡ change key (get (pairs map) key) value) }
+    ensures pairs { IfOk result (λ r. pairs r.0 ≡ put_value (pairs map) key value) }
+    ensures same { IfOk result (λ r. IfNone r.1 (r.0 ≡ map)) }
+    ensures few { IfOk result (λ r. fresh map r.0 ≤ 3 * (height map + 1)) }
+    ensures low { 2 ^ height map ≤ (length (pairs map) + 1) ^ 2 }
+    ensures ascending { IsAscending (pairs map) }
 {
-    match (held, value) {
-        (None, None) => None,
-        (None, Some(new)) => Some(added(key, new)),
-        (Some(_), None) => Some(deleted(key)),
-        (Some(old), Some(new)) => {
-            if old.same(&new) {
-                return None;
-            }
-            Some(updated(key, new))
+    // Reads the count of pairs, so that their order is known.
+    let _all = map.len();
+    match value {
+        Some(value) => {
+            let (map, kind) = map.put_in(alloc, &key, &value)?;
+            Ok((map, put_delta(kind, key, value)))
+        }
+        None => {
+            let (map, was) = map.remove_in(alloc, &key)?;
+            Ok((map, removed_delta(was, key)))
         }
     }
+}
+
+// What a put of a kind changes.
+fn put_delta(kind: Option<Kind>, key: Text, value: Text) -> Option<Delta>
+    ensures { result ≡ delta_of kind key value }
+{
+    match kind {
+        None => None,
+        Some(kind) => match kind {
+            Kind::New => Some(added(key, value)),
+            Kind::Updated => Some(updated(key, value)),
+            // A put deletes nothing.
+            Kind::Deleted => None,
+        },
+    }
+}
+
+// What it changes that a key is removed, if it was there.
+fn removed_delta(was: bool, key: Text) -> Option<Delta>
+    ensures { result ≡ cond was (Some (deleted key)) None }
+{
+    if was { Some(deleted(key)) } else { None }
 }
 
 // The key has a value now.
@@ -258,19 +309,5 @@ fn deleted(key: Text) -> Delta
         key,
         kind: Kind::Deleted,
         value: None,
-    }
-}
-
-// The map with one change.
-fn applied(alloc: Global, map: Pairs, delta: &Delta) -> Result<Pairs, NoMemory>
-    ensures pairs { IfOk result (λ p. pairs p ≡ changed (pairs map) delta.now) }
-    ensures spent { (old : Shape) (all before left : ℕ) → left < before
-        → Spent old map all before → IfOk result (λ p. Spent old p all left) }
-{
-    // Reads the count of pairs, so that their order is known.
-    let _all = map.len();
-    match &delta.value {
-        Some(value) => map.put_in(alloc, &delta.key, value),
-        None => map.remove_in(alloc, &delta.key),
     }
 }

@@ -24,7 +24,7 @@ turned : (k q : List ℕ) → bytes_eq k q ≡ true → bytes_eq q k ≡ true
 turned k q p = (bytes_decides q k).1 (sym ((bytes_decides k q).0 p))
 
 -- no two keys of a list are one
-abbrev Distinct : List (List ℕ) → Type 0
+abbrev pub Distinct : List (List ℕ) → Type 0
 Distinct [] = Unit {0}
 Distinct (k ∷ ks) = (list_any (bytes_eq k) ks ≡ false) × Distinct ks
 

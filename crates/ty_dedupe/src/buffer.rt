@@ -47,13 +47,20 @@ impl Buffer {
             → OnOk result (BufferStands self.new (items ++ item.now ∷ [])) }
         ensures err { OnErr result (self.new ≡ self.old) }
     {
+        let item = copied(alloc, item)?;
+        self.take(item)
+    }
+
+    /// The same of an item that is handed over: neither its key nor its value is copied. At want of memory it is gone.
+    pub fn take(&mut self, item: Item) -> Result<(), NoMemory>
+        ensures ok { (items : List Item) → BufferStands self.old items
+            → OnOk result (BufferStands self.new (items ++ item ∷ [])) }
+        ensures err { OnErr result (self.new ≡ self.old) }
+    {
         match item {
-            Item::Put { key, value } => {
-                let value = value.copy(alloc)?;
-                note(&mut self.pairs, alloc, key, Some(value))?;
-            }
-            Item::Del { key } => note(&mut self.pairs, alloc, key, None)?,
-            Item::State(status) => self.status = Some(*status),
+            Item::Put { key, value } => note(&mut self.pairs, key, Some(value))?,
+            Item::Del { key } => note(&mut self.pairs, key, None)?,
+            Item::State(status) => self.status = Some(status),
             Item::Mark => {}
         }
         Ok(())
@@ -77,18 +84,34 @@ impl Buffer {
     }
 }
 
+// Another item that says the same.
+fn copied(alloc: Global, item: &Item) -> Result<Item, NoMemory>
+    ensures { IfOk result (λ x. x ≡ item.now) }
+{
+    match item {
+        Item::Put { key, value } => Ok(Item::Put {
+            key: key.copy(alloc)?,
+            value: value.copy(alloc)?,
+        }),
+        Item::Del { key } => Ok(Item::Del {
+            key: key.copy(alloc)?,
+        }),
+        Item::State(status) => Ok(Item::State(*status)),
+        Item::Mark => Ok(Item::Mark),
+    }
+}
+
 // Puts a key's new value at the key's place, or behind all others.
 fn note(
     pairs: &mut IndexMap<String, Option<Text>>,
-    alloc: Global,
-    key: &Text,
+    key: Text,
     value: Option<Text>,
 ) -> Result<(), NoMemory>
     ensures ok { OnOk result (map shown pairs.new.entries
-        ≡ insert_entry bytes_eq (map shown pairs.old.entries) key.now value) }
+        ≡ insert_entry bytes_eq (map shown pairs.old.entries) key value) }
     ensures err { OnErr result (pairs.new.entries ≡ pairs.old.entries) }
 {
-    let key = String::from_str(alloc, key.as_str())?;
+    let key = key.into_string();
     pairs.insert(key, value)?;
     Ok(())
 }

@@ -1,5 +1,6 @@
 pub mod Alone
 pub mod Ascending
+pub mod Changes
 pub mod FreshCounts
 pub mod FreshSums
 pub mod Heights

@@ -1,4 +1,5 @@
 pub mod Ascending
+pub mod Changes
 pub mod Fresh
 pub mod Heights
 pub mod Nodes

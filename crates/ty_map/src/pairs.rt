@@ -1,8 +1,9 @@
 // The map.
-ghost use Rattle.std.specs.Prelude.{◌≡◌, ◌==◌, ◌^◌, ◌*◌, ◌+◌, ◌≤◌, length, IfOk};
+ghost use Rattle.std.specs.Prelude.{◌≡◌, ◌==◌, ◌^◌, ◌*◌, ◌+◌, ◌≤◌, length, false, is_some, IfOk, IfNone};
 ghost use Rattle.std.specs.Option.{option_copied};
 ghost use Rattle.ty_base.specs.Feed.{insert, remove, get};
 ghost use Rattle.ty_map.specs.Ascending.{IsAscending};
+ghost use Rattle.ty_map.specs.Changes.{kind_of_put};
 ghost use Rattle.ty_map.specs.Fresh.{fresh};
 ghost use Rattle.ty_map.specs.Shape.{Empty, pairs, height, IsBalanced};
 
@@ -11,7 +12,7 @@ use crate::walk::Walk;
 use std::alloc::Global;
 use std::marker::Model;
 use std::sync::Arc;
-use ty_base::{NoMemory, Text};
+use ty_base::{Kind, NoMemory, Text};
 
 /// An ordered map from texts to texts that never changes: `put` and `remove` give a new one, which shares with the
 /// old what they have in common. Contracts see it as the tree that it keeps. `pairs` of that tree is the map: its pairs,
@@ -92,19 +93,26 @@ impl Pairs {
         })
     }
 
-    /// The same of a map that is given up: its nodes that no other map shares change in place, and only the others are
-    /// copied. At want of memory the map is gone.
-    pub fn put_in(self, alloc: Global, key: &Text, value: &Text) -> Result<Pairs, NoMemory>
-        ensures pairs { IfOk result (λ p. pairs p ≡ insert (pairs self) key.now value.now) }
-        ensures few { IfOk result (λ p. fresh self p ≤ 3 * (height self + 1)) }
+    /// The same of a map that is given up, and the kind of the change, or `None` where the key had this very value: then
+    /// nothing is written. Nodes that no other map shares change in place, and only the others are copied. At want of
+    /// memory the map is gone.
+    pub fn put_in(
+        self,
+        alloc: Global,
+        key: &Text,
+        value: &Text,
+    ) -> Result<(Pairs, Option<Kind>), NoMemory>
+        ensures pairs { IfOk result (λ r. pairs r.0 ≡ insert (pairs self) key.now value.now) }
+        ensures kind { IfOk result (λ r. r.1 ≡ kind_of_put (pairs self) key.now value.now) }
+        ensures same { IfOk result (λ r. IfNone r.1 (r.0 ≡ self)) }
+        ensures few { IfOk result (λ r. fresh self r.0 ≤ 3 * (height self + 1)) }
         ensures low { 2 ^ height self ≤ (length (pairs self) + 1) ^ 2 }
     {
         let Pairs { tree } = self;
         // Reads the height, so that its bound is known.
         let _height = tree.height();
-        Ok(Pairs {
-            tree: tree.put_in(alloc, key, value)?,
-        })
+        let (tree, kind) = tree.put_in(alloc, key, value)?;
+        Ok((Pairs { tree }, kind))
     }
 
     /// The map without this key; an equal map where it wasn't there. New are as few nodes as by `put`.
@@ -119,17 +127,19 @@ impl Pairs {
         })
     }
 
-    /// The same of a map that is given up, as by `put_in`.
-    pub fn remove_in(self, alloc: Global, key: &Text) -> Result<Pairs, NoMemory>
-        ensures pairs { IfOk result (λ p. pairs p ≡ remove (pairs self) key.now) }
-        ensures few { IfOk result (λ p. fresh self p ≤ 3 * (height self + 1)) }
+    /// The same of a map that is given up, as by `put_in`, and whether the key was there. Where it wasn't, nothing is
+    /// written.
+    pub fn remove_in(self, alloc: Global, key: &Text) -> Result<(Pairs, bool), NoMemory>
+        ensures pairs { IfOk result (λ r. pairs r.0 ≡ remove (pairs self) key.now) }
+        ensures held { IfOk result (λ r. r.1 ≡ is_some (get (pairs self) key.now)) }
+        ensures same { IfOk result (λ r. r.1 ≡ false → r.0 ≡ self) }
+        ensures few { IfOk result (λ r. fresh self r.0 ≤ 3 * (height self + 1)) }
         ensures low { 2 ^ height self ≤ (length (pairs self) + 1) ^ 2 }
     {
         let Pairs { tree } = self;
         let _height = tree.height();
-        Ok(Pairs {
-            tree: tree.remove_in(alloc, key)?,
-        })
+        let (tree, was) = tree.remove_in(alloc, key)?;
+        Ok((Pairs { tree }, was))
     }
 
     /// The pairs in ascending order of the keys' bytes. Only this call takes memory, and no step of the walk.

@@ -1,11 +1,13 @@
 // An AVL tree whose nodes are shared, seen as its shape.
-ghost use Rattle.std.specs.Prelude.{◌≡◌, ℕ, ◌*◌, ◌+◌, ◌^◌, ◌<◌, ◌≤◌, max, ◌∷◌, ◌++◌, length, IfOk, IfNone, IfSome};
+ghost use Rattle.std.specs.Prelude.{◌≡◌, ℕ, ◌*◌, ◌+◌, ◌^◌, ◌<◌, ◌≤◌, max, ◌∷◌, ◌++◌, length, false, Some, is_some, IfOk, IfNone, IfSome};
 ghost use Rattle.std.specs.Option.{option_copied};
 ghost use Rattle.std.specs.Arc.{arc_value};
-ghost use Rattle.ty_base.specs.Feed.{insert, remove, get};
+ghost use Rattle.ty_base.specs.declared.delta.Kind.TheVariants.{New};
+ghost use Rattle.ty_base.specs.Feed.{insert, remove, get, change};
 ghost use Rattle.ty_map.specs.Ascending.{IsAscending};
+ghost use Rattle.ty_map.specs.Changes.{kind_of, kind_of_put};
 ghost use Rattle.ty_map.specs.Fresh.{fresh};
-ghost use Rattle.ty_map.specs.steps.Tree.{AtMostFresh, IsHeightAfterRebalance};
+ghost use Rattle.ty_map.specs.steps.Tree.{AtMostFresh, IsHeightAfterRebalance, IsSound, IsOpen, settled};
 ghost use Rattle.ty_map.specs.Nodes.{pair_of};
 ghost use Rattle.ty_map.specs.Shape.{Shape, Empty, Fork, pairs, height, IsBalanced, DifferByAtMost};
 
@@ -14,7 +16,7 @@ use std::cmp::Ordering;
 use std::marker::Model;
 use std::mem;
 use std::sync::Arc;
-use ty_base::{NoMemory, Text};
+use ty_base::{Kind, NoMemory, Text};
 
 /// A key and its value.
 #[derive(Drop)]
@@ -145,58 +147,69 @@ impl Tree {
         }
     }
 
-    /// The tree with a value put at a key. This tree is given up: its nodes that no other tree shares change in place, and
-    /// only the others are copied.
-    pub fn put_in(self, alloc: Global, key: &Text, value: &Text) -> Result<Tree, NoMemory>
-        ensures pairs { IfOk result (λ t. pairs t ≡ insert (pairs self) key.now value.now) }
-        ensures not_lower { IfOk result (λ t. height self ≤ height t) }
-        ensures at_most_one_higher { IfOk result (λ t. height t ≤ height self + 1) }
-        ensures fresh { IfOk result (λ t. fresh self t ≤ 3 * (height self + 1)) }
+    /// The tree with a value put at a key, and the kind of that change, or none where the key has this very value: then
+    /// nothing is written. This tree is given up: its nodes that no other tree shares change in place, and only the others
+    /// are copied.
+    pub fn put_in(
+        self,
+        alloc: Global,
+        key: &Text,
+        value: &Text,
+    ) -> Result<(Tree, Option<Kind>), NoMemory>
+        ensures pairs { IfOk result (λ r. pairs r.0 ≡ insert (pairs self) key.now value.now) }
+        ensures kind { IfOk result (λ r. r.1 ≡ kind_of_put (pairs self) key.now value.now) }
+        ensures same { IfOk result (λ r. IfNone r.1 (r.0 ≡ self)) }
+        ensures not_lower { IfOk result (λ r. height self ≤ height r.0) }
+        ensures at_most_one_higher { IfOk result (λ r. height r.0 ≤ height self + 1) }
+        ensures fresh { IfOk result (λ r. AtMostFresh self r.0 (3 * (height self + 1))) }
     {
         let Tree { root } = self;
         match root {
-            Root::Leaf => Tree::empty().put(alloc, new_pair(alloc, key, value)?),
+            Root::Leaf => put_first(alloc, key, value),
             Root::Node(mut held) => {
                 let Some(node) = Arc::get_mut(&mut held) else {
                     let shared = Tree {
                         root: Root::Node(held),
                     };
-                    return shared.put(alloc, new_pair(alloc, key, value)?);
+                    return put_shared(alloc, shared, key, value);
                 };
                 match key.compare(&node.pair.key) {
                     Ordering::Less => {
                         let left = mem::replace(&mut node.left, Tree::empty());
                         let (height, count) = (left.height(), left.len());
-                        let left = left.put_in(alloc, key, value)?;
-                        if left.height() != height {
-                            let right = mem::replace(&mut node.right, Tree::empty());
-                            return balance(alloc, left, Arc::try_clone(&node.pair)?, right);
+                        let (left, kind) = left.put_in(alloc, key, value)?;
+                        match set_left(alloc, node, left, height, count)? {
+                            Some(turned) => Ok((turned, kind)),
+                            None => Ok((
+                                Tree {
+                                    root: Root::Node(held),
+                                },
+                                kind,
+                            )),
                         }
-                        node.count = recount(node.count, count, left.len())?;
-                        node.left = left;
-                        Ok(Tree {
-                            root: Root::Node(held),
-                        })
                     }
                     Ordering::Greater => {
                         let right = mem::replace(&mut node.right, Tree::empty());
                         let (height, count) = (right.height(), right.len());
-                        let right = right.put_in(alloc, key, value)?;
-                        if right.height() != height {
-                            let left = mem::replace(&mut node.left, Tree::empty());
-                            return balance(alloc, left, Arc::try_clone(&node.pair)?, right);
+                        let (right, kind) = right.put_in(alloc, key, value)?;
+                        match set_right(alloc, node, right, height, count)? {
+                            Some(turned) => Ok((turned, kind)),
+                            None => Ok((
+                                Tree {
+                                    root: Root::Node(held),
+                                },
+                                kind,
+                            )),
                         }
-                        node.count = recount(node.count, count, right.len())?;
-                        node.right = right;
-                        Ok(Tree {
-                            root: Root::Node(held),
-                        })
                     }
                     Ordering::Equal => {
-                        write(alloc, &mut node.pair, key, value)?;
-                        Ok(Tree {
-                            root: Root::Node(held),
-                        })
+                        let kind = write(alloc, &mut node.pair, key, value)?;
+                        Ok((
+                            Tree {
+                                root: Root::Node(held),
+                            },
+                            kind,
+                        ))
                     }
                 }
             }
@@ -229,57 +242,62 @@ impl Tree {
         }
     }
 
-    /// The tree with no pair of a key. This tree is given up, as by `put_in`.
-    pub fn remove_in(self, alloc: Global, key: &Text) -> Result<Tree, NoMemory>
-        ensures pairs { IfOk result (λ t. pairs t ≡ remove (pairs self) key.now) }
-        ensures not_higher { IfOk result (λ t. height t ≤ height self) }
-        ensures at_most_one_lower { IfOk result (λ t. height self ≤ height t + 1) }
-        ensures fresh { IfOk result (λ t. fresh self t ≤ 3 * (height self + 1)) }
+    /// The tree with no pair of a key, and whether there was one. This tree is given up, as by `put_in`.
+    pub fn remove_in(self, alloc: Global, key: &Text) -> Result<(Tree, bool), NoMemory>
+        ensures pairs { IfOk result (λ r. pairs r.0 ≡ remove (pairs self) key.now) }
+        ensures held { IfOk result (λ r. r.1 ≡ is_some (get (pairs self) key.now)) }
+        ensures same { IfOk result (λ r. r.1 ≡ false → r.0 ≡ self) }
+        ensures not_higher { IfOk result (λ r. height r.0 ≤ height self) }
+        ensures at_most_one_lower { IfOk result (λ r. height self ≤ height r.0 + 1) }
+        ensures fresh { IfOk result (λ r. AtMostFresh self r.0 (3 * (height self + 1))) }
     {
         let Tree { root } = self;
         match root {
-            Root::Leaf => Ok(Tree::empty()),
+            Root::Leaf => Ok((Tree::empty(), false)),
             Root::Node(mut held) => {
                 let Some(node) = Arc::get_mut(&mut held) else {
                     let shared = Tree {
                         root: Root::Node(held),
                     };
-                    return shared.remove(alloc, key);
+                    return remove_shared(alloc, shared, key);
                 };
                 match key.compare(&node.pair.key) {
                     Ordering::Less => {
                         let left = mem::replace(&mut node.left, Tree::empty());
                         let (height, count) = (left.height(), left.len());
-                        let left = left.remove_in(alloc, key)?;
-                        if left.height() != height {
-                            let right = mem::replace(&mut node.right, Tree::empty());
-                            return balance(alloc, left, Arc::try_clone(&node.pair)?, right);
+                        let (left, was) = left.remove_in(alloc, key)?;
+                        match set_left(alloc, node, left, height, count)? {
+                            Some(turned) => Ok((turned, was)),
+                            None => Ok((
+                                Tree {
+                                    root: Root::Node(held),
+                                },
+                                was,
+                            )),
                         }
-                        node.count = recount(node.count, count, left.len())?;
-                        node.left = left;
-                        Ok(Tree {
-                            root: Root::Node(held),
-                        })
                     }
                     Ordering::Greater => {
                         let right = mem::replace(&mut node.right, Tree::empty());
                         let (height, count) = (right.height(), right.len());
-                        let right = right.remove_in(alloc, key)?;
-                        if right.height() != height {
-                            let left = mem::replace(&mut node.left, Tree::empty());
-                            return balance(alloc, left, Arc::try_clone(&node.pair)?, right);
+                        let (right, was) = right.remove_in(alloc, key)?;
+                        match set_right(alloc, node, right, height, count)? {
+                            Some(turned) => Ok((turned, was)),
+                            None => Ok((
+                                Tree {
+                                    root: Root::Node(held),
+                                },
+                                was,
+                            )),
                         }
-                        node.count = recount(node.count, count, right.len())?;
-                        node.right = right;
-                        Ok(Tree {
-                            root: Root::Node(held),
-                        })
                     }
                     Ordering::Equal => {
                         let left = mem::replace(&mut node.left, Tree::empty());
                         match node.right.split_first(alloc)? {
-                            None => Ok(left),
-                            Some((first, right)) => balance(alloc, left, first, right),
+                            None => Ok((left, true)),
+                            Some((first, right)) => {
+                                let rest = balance(alloc, left, first, right)?;
+                                Ok((rest, true))
+                            }
                         }
                     }
                 }
@@ -354,16 +372,153 @@ fn new_pair(alloc: Global, key: &Text, value: &Text) -> Result<Arc<Pair>, NoMemo
     Ok(Arc::new(alloc, pair)?)
 }
 
-// Writes the value of a key's pair, in place where no other tree has this pair.
-fn write(alloc: Global, pair: &mut Arc<Pair>, key: &Text, value: &Text) -> Result<(), NoMemory>
-    requires { (arc_value pair.old).key ≡ key.now }
-    ensures { IfOk result (λ _. pair_of (arc_value pair.new) ≡ (key.now, value.now)) }
+// The tree of one new pair.
+fn put_first(alloc: Global, key: &Text, value: &Text) -> Result<(Tree, Option<Kind>), NoMemory>
+    ensures tree { IfOk result (λ r. r.0 ≡ Fork Empty (key.now, value.now) Empty 1) }
+    ensures kind { IfOk result (λ r. r.1 ≡ Some New) }
 {
+    let pair = new_pair(alloc, key, value)?;
+    let tree = join(alloc, Tree::empty(), pair, Tree::empty())?;
+    Ok((tree, Some(Kind::New)))
+}
+
+// A tree whose topmost node is shared, with a value put at a key: it is looked up first, so that nothing is copied where
+// nothing changes.
+fn put_shared(
+    alloc: Global,
+    tree: Tree,
+    key: &Text,
+    value: &Text,
+) -> Result<(Tree, Option<Kind>), NoMemory>
+    ensures pairs { IfOk result (λ r. pairs r.0 ≡ insert (pairs tree) key.now value.now) }
+    ensures kind { IfOk result (λ r. r.1 ≡ kind_of_put (pairs tree) key.now value.now) }
+    ensures same { IfOk result (λ r. IfNone r.1 (r.0 ≡ tree)) }
+    ensures not_lower { IfOk result (λ r. height tree ≤ height r.0) }
+    ensures at_most_one_higher { IfOk result (λ r. height r.0 ≤ height tree + 1) }
+    ensures fresh { IfOk result (λ r. AtMostFresh tree r.0 (3 * (height tree + 1))) }
+{
+    // Reads the count of pairs, so that their order is known.
+    let _all = tree.len();
+    match change_by(tree.get(key), key, value) {
+        None => Ok((tree, None)),
+        Some(kind) => {
+            let pair = new_pair(alloc, key, value)?;
+            Ok((tree.put(alloc, pair)?, Some(kind)))
+        }
+    }
+}
+
+// The same where a key is removed.
+fn remove_shared(alloc: Global, tree: Tree, key: &Text) -> Result<(Tree, bool), NoMemory>
+    ensures pairs { IfOk result (λ r. pairs r.0 ≡ remove (pairs tree) key.now) }
+    ensures held { IfOk result (λ r. r.1 ≡ is_some (get (pairs tree) key.now)) }
+    ensures same { IfOk result (λ r. r.1 ≡ false → r.0 ≡ tree) }
+    ensures not_higher { IfOk result (λ r. height r.0 ≤ height tree) }
+    ensures at_most_one_lower { IfOk result (λ r. height tree ≤ height r.0 + 1) }
+    ensures fresh { IfOk result (λ r. AtMostFresh tree r.0 (3 * (height tree + 1))) }
+{
+    let _all = tree.len();
+    match tree.get(key) {
+        None => Ok((tree, false)),
+        Some(_) => Ok((tree.remove(alloc, key)?, true)),
+    }
+}
+
+// How a key changes that is given a value.
+fn change_by(held: Option<&Text>, key: &Text, value: &Text) -> Option<Kind>
+    ensures { result ≡ kind_of (change key.now (option_copied held.entry) (Some value.now)) }
+{
+    match held {
+        None => Some(Kind::New),
+        Some(old) => {
+            if old.same(value) {
+                None
+            } else {
+                Some(Kind::Updated)
+            }
+        }
+    }
+}
+
+// Writes the value of a key's pair where it has another, in place where no other tree has this pair.
+fn write(
+    alloc: Global,
+    pair: &mut Arc<Pair>,
+    key: &Text,
+    value: &Text,
+) -> Result<Option<Kind>, NoMemory>
+    requires { (arc_value pair.old).key ≡ key.now }
+    ensures pair { IfOk result (λ _. pair_of (arc_value pair.new) ≡ (key.now, value.now)) }
+    ensures kind { IfOk result (λ k. k
+        ≡ kind_of (change key.now (Some (arc_value pair.old).value) (Some value.now))) }
+    ensures same { IfOk result (λ k. IfNone k (pair_of (arc_value pair.new) ≡ pair_of (arc_value pair.old))) }
+{
+    if pair.value.same(value) {
+        return Ok(None);
+    }
     match Arc::get_mut(pair) {
         Some(alone) => alone.value = value.copy(alloc)?,
         None => *pair = new_pair(alloc, key, value)?,
     }
-    Ok(())
+    Ok(Some(Kind::Updated))
+}
+
+// Gives a node whose left side was taken out another one: in place where it is as high as that was, else as a new tree.
+fn set_left(
+    alloc: Global,
+    node: &mut Node,
+    left: Tree,
+    before: u64,
+    count: usize,
+) -> Result<Option<Tree>, NoMemory>
+    requires sorted { IsAscending (pairs left ++ pair_of (arc_value node.old.pair) ∷ pairs node.old.right) }
+    requires near { DifferByAtMost 2 (height left) (height node.old.right) }
+    requires open { IsOpen node.old before count node.old.right }
+    ensures sound { IfOk result (λ o. IfNone o (IsSound node.new)) }
+    ensures pairs { IfOk result (λ o. pairs (settled node.new o)
+        ≡ pairs left ++ pair_of (arc_value node.old.pair) ∷ pairs node.old.right) }
+    ensures height { IfOk result (λ o. IsHeightAfterRebalance (height left) (height node.old.right) (height (settled node.new o))) }
+    ensures kept { height left ≡ before → IfOk result (λ o. settled node.new o ≡ Fork left (pair_of (arc_value node.old.pair)) node.old.right node.old.height) }
+    ensures fresh { (old : Shape) (a b : ℕ) → AtMostFresh old left a → AtMostFresh old node.old.right b
+        → IfOk result (λ o. AtMostFresh old (settled node.new o) (a + b + 3)) }
+{
+    if left.height() != before {
+        let right = mem::replace(&mut node.right, Tree::empty());
+        let turned = balance(alloc, left, Arc::try_clone(&node.pair)?, right)?;
+        return Ok(Some(turned));
+    }
+    node.count = recount(node.count, count, left.len())?;
+    node.left = left;
+    Ok(None)
+}
+
+// The same of the right side.
+fn set_right(
+    alloc: Global,
+    node: &mut Node,
+    right: Tree,
+    before: u64,
+    count: usize,
+) -> Result<Option<Tree>, NoMemory>
+    requires sorted { IsAscending (pairs node.old.left ++ pair_of (arc_value node.old.pair) ∷ pairs right) }
+    requires near { DifferByAtMost 2 (height node.old.left) (height right) }
+    requires open { IsOpen node.old before count node.old.left }
+    ensures sound { IfOk result (λ o. IfNone o (IsSound node.new)) }
+    ensures pairs { IfOk result (λ o. pairs (settled node.new o)
+        ≡ pairs node.old.left ++ pair_of (arc_value node.old.pair) ∷ pairs right) }
+    ensures height { IfOk result (λ o. IsHeightAfterRebalance (height node.old.left) (height right) (height (settled node.new o))) }
+    ensures kept { height right ≡ before → IfOk result (λ o. settled node.new o ≡ Fork node.old.left (pair_of (arc_value node.old.pair)) right node.old.height) }
+    ensures fresh { (old : Shape) (a b : ℕ) → AtMostFresh old node.old.left a → AtMostFresh old right b
+        → IfOk result (λ o. AtMostFresh old (settled node.new o) (a + b + 3)) }
+{
+    if right.height() != before {
+        let left = mem::replace(&mut node.left, Tree::empty());
+        let turned = balance(alloc, left, Arc::try_clone(&node.pair)?, right)?;
+        return Ok(Some(turned));
+    }
+    node.count = recount(node.count, count, right.len())?;
+    node.right = right;
+    Ok(None)
 }
 
 // The count of a whole of which a part went from one count to another.

@@ -1,9 +1,9 @@
 -- What holds of each node of a tree, and what joining two sides may come to.
-use Rattle.std.specs.Prelude.{◌≡◌, ℕ, ◌+◌, ◌≤◌, max, ◌∷◌, ◌++◌, length}
+use Rattle.std.specs.Prelude.{◌≡◌, ℕ, ◌+◌, ◌≤◌, max, ◌∷◌, ◌++◌, length, Option, None, Some}
 use Rattle.ty_map.specs.Ascending.{IsAscending}
 use Rattle.ty_map.specs.Fresh.{fresh}
 use Rattle.ty_map.specs.Nodes.{pair_of}
-use Rattle.ty_map.specs.Shape.{Shape, pairs, height, IsBalanced, DifferByAtMost}
+use Rattle.ty_map.specs.Shape.{Shape, Fork, pairs, height, IsBalanced, DifferByAtMost}
 use Rattle.ty_map.specs.declared.tree.Node.{Node as Fields}
 use Rattle.ty_map.specs.declared.tree.Root.{Root}
 use Rattle.ty_map.specs.declared.tree.Root.TheVariants.{Leaf, Node}
@@ -29,3 +29,13 @@ IsHeightAfterRebalance l r h = (max l r ≤ h) × (h ≤ max l r + 1) × (Differ
 -- at most n nodes of a tree are fresh
 abbrev pub AtMostFresh : Shape → Shape → ℕ → Type 0
 AtMostFresh old t n = fresh old t ≤ n
+
+-- a node without one of its sides, which had this height and so many pairs, beside the other side
+abbrev pub IsOpen : Fields → ℕ → ℕ → Shape → Type 0
+IsOpen n before count other =
+    (n.height ≡ max before (height other) + 1) × DifferByAtMost 1 before (height other) × (n.count ≡ count + (1 + length (pairs other))) × IsBalanced other
+
+-- what a node has become: another tree, where there is one, or itself
+abbrev pub settled : Fields → Option Shape → Shape
+settled n (Some t) = t
+settled n None = Fork n.left (pair_of n.pair.value) n.right n.height

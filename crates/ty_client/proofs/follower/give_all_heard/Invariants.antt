@@ -1,4 +1,4 @@
-use Rattle.std.proofs.Common.{◌≡◌, ◌≤◌, List, take}
+use Rattle.std.proofs.Common.{◌≡◌, List, take}
 use Rattle.ty_wire.specs.declared.message.Msg.{Msg}
 use Rattle.ty_client.specs.Rebuild.{staged}
 use Rattle.ty_client.proofs.Told.{Told}

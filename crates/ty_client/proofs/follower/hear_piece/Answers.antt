@@ -1,4 +1,4 @@
-use Rattle.std.proofs.Common.{◌++◌, List, ℕ, subst, sym, rules}
+use Rattle.std.proofs.Common.{◌++◌, List, subst, sym, rules}
 use Rattle.std.specs.Prelude.{Option, Ok, Err}
 use Rattle.std.specs.List.{AllByRecursion}
 use Rattle.ty_wire.specs.Wire.{IsWire}

@@ -1,11 +1,13 @@
-use Rattle.std.specs.Prelude.{Some, None}
-use Rattle.ty_crumb.proofs.Spent.{spent_call}
+use Rattle.std.proofs.Common.{◌∙◌, ap, sym}
+use Rattle.ty_base.specs.Feed.{get, change}
+use Rattle.ty_map.specs.Shape.{pairs}
+use Rattle.ty_crumb.specs.steps.Deltas.{delta_of}
+use Rattle.ty_crumb.proofs.Applied.{told_by_kind}
 use Rattle.ty_crumb.proofs.successor.applied.Goals as goal
 
-pub returns-in-Some-clause-spent : goal.returns-in-Some-clause-spent
-returns-in-Some-clause-spent c = λ old all before left more s.
-    spent_call _ old _ all before left _ (Some _) more s c.len-all.ensures.ascending c.put_in.ensures.low c.put_in.ensures.pairs c.put_in.ensures.few
-
-pub returns-in-None-clause-spent : goal.returns-in-None-clause-spent
-returns-in-None-clause-spent c = λ old all before left more s.
-    spent_call _ old _ all before left _ None more s c.len-all.ensures.ascending c.remove_in.ensures.low c.remove_in.ensures.pairs c.remove_in.ensures.few
+pub returns-in_ok-map-in-Some-clause-delta : goal.returns-in_ok-map-in-Some-clause-delta
+returns-in_ok-map-in-Some-clause-delta c =
+    let k = c.args.key in
+    let v = c.in-Some.value in
+    let had = get (pairs c.args.map) k in
+    c.put_delta.ensures ∙ ap (λ o. delta_of o k v) c.in_ok-map-in-Some.ensures.kind ∙ told_by_kind k had v ∙ ap (change k had) (sym c.in-Some.is)

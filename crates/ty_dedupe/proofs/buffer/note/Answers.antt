@@ -9,5 +9,5 @@ pub returns-clause-ok : goal.returns-clause-ok
 returns-clause-ok c =
     let es = c.args.pairs.now.entries in
     ap (map shown) c.in_ok-insert.ensures.entries
-    ∙ shown_insert es c.in_ok-key.key c.args.value
-    ∙ ap (λ k. insert_entry bytes_eq (map shown es) k c.args.value) (c.in_ok-key.ensures.ok ∙ c.as_str.ensures)
+    ∙ shown_insert es c.into_string-key.result c.args.value
+    ∙ ap (λ k. insert_entry bytes_eq (map shown es) k c.args.value) c.into_string-key.ensures
