@@ -2,8 +2,10 @@ pub mod Following
 pub mod Given
 pub mod Hellos
 pub mod Parts
+pub mod Posts
 pub mod Saying
 pub mod Service
 pub mod Taking
 pub mod Turns
+pub mod Workers
 pub mod Working

@@ -4,4 +4,6 @@ pub mod Greeting
 pub mod Served
 pub mod Stories
 pub mod Turning
+pub mod WholeServer
+pub mod Workers
 pub mod steps

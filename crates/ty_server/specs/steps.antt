@@ -2,3 +2,5 @@
 pub mod Parts
 pub mod Steps
 pub mod Service
+pub mod Visits
+pub mod Posts

@@ -37,7 +37,7 @@ use Rattle.ty_top.proofs.FollowedStreams.{front_taken, all_taken}
 use Rattle.ty_top.proofs.BothEnds.{all_read}
 use Rattle.ty_top.proofs.Statuses.{at_one, at_three, at_four}
 
-not_none : {X : Type 0} (x : X) → Some x ≡ None → ⊥
+pub not_none : {X : Type 0} (x : X) → Some x ≡ None → ⊥
 not_none x h = true≢false (ap is_some h)
 
 -- ---- `stream`
@@ -159,6 +159,8 @@ module _ (old new : Seen) (bytes : List ℕ) (known : old.source.left ≡ Some b
 
 abbrev pub status_in : Local → ℕ
 status_in (local.Done r) = r
+status_in (local.Serve words) = 0
+status_in (local.Follow words) = 0
 
 either_done : (r k : ℕ) → r ≡ k → (k ≡ 0) ⊎ (k ≡ 5) → (local.Done r ≡ local.Done 0) ⊎ (local.Done r ≡ local.Done 5)
 either_done r k e (inl z) = inl (ap (λ (n : ℕ). local.Done n) (e ∙ z))

@@ -1,6 +1,7 @@
 pub mod Told
 pub mod Books
 pub mod Limits
+pub mod Outcomes
 pub mod Streams
 pub mod Grown
 pub mod Headline
@@ -12,4 +13,6 @@ pub mod FollowedStreams
 pub mod BothEnds
 pub mod FeedStreams
 pub mod Complete
+pub mod LinkStatuses
+pub mod Runs
 pub mod Simulations

@@ -8,7 +8,7 @@ use Rattle.ty_client.specs.declared.fault.StreamFault.{StreamFault}
 use Rattle.ty_client.specs.declared.fault.StreamFault.TheVariants as stream
 use Rattle.ty_core.specs.declared.simulation.SimFault.{SimFault}
 use Rattle.ty_core.specs.declared.simulation.SimFault.TheVariants as sim
-use Rattle.ty_top.specs.Endings.{exit_status, stream_status, follow_status, sim_status, load_status, fault_status, feed_status, script_line}
+use Rattle.ty_top.specs.Endings.{exit_status, stream_status, follow_status, sim_status, load_status, fault_status, feed_status, script_line, script_status}
 use Rattle.ty_top.specs.declared.ending.Ending.{Ending}
 use Rattle.ty_top.specs.declared.ending.Ending.TheVariants.{Usage, Memory, Stream, Follow, Sim, Load}
 use Rattle.ty_top.specs.declared.ending.StreamEnd.{StreamEnd}
@@ -31,7 +31,7 @@ is_line feed.TooMuch = false
 line_fault : (f : IntakeFault) → is_line f ≡ true → f ≢ feed.TooMuch
 line_fault f t e = true≢false (sym t ∙ ap is_line e)
 
-feed_either : (f : IntakeFault) → ((feed_status f ≡ 2) × (f ≢ feed.TooMuch)) ⊎ ((feed_status f ≡ 8) × (f ≡ feed.TooMuch))
+pub feed_either : (f : IntakeFault) → ((feed_status f ≡ 2) × (f ≢ feed.TooMuch)) ⊎ ((feed_status f ≡ 8) × (f ≡ feed.TooMuch))
 feed_either (feed.LongLine n) = inl (refl, line_fault (feed.LongLine n) refl)
 feed_either (feed.BadUtf8 n) = inl (refl, line_fault (feed.BadUtf8 n) refl)
 feed_either (feed.BadLine n) = inl (refl, line_fault (feed.BadLine n) refl)
@@ -49,7 +49,7 @@ is_frame (stream.NotRising k had found) = true
 frame_fault : (f : StreamFault) → is_frame f ≡ true → f ≢ stream.Wire wire.TooMuch
 frame_fault f t e = true≢false (sym t ∙ ap is_frame e)
 
-fault_either : (f : StreamFault) → ((fault_status f ≡ 6) × (f ≢ stream.Wire wire.TooMuch)) ⊎ ((fault_status f ≡ 8) × (f ≡ stream.Wire wire.TooMuch))
+pub fault_either : (f : StreamFault) → ((fault_status f ≡ 6) × (f ≢ stream.Wire wire.TooMuch)) ⊎ ((fault_status f ≡ 8) × (f ≡ stream.Wire wire.TooMuch))
 fault_either (stream.Wire wire.TooMuch) = inr (refl, refl)
 fault_either (stream.Wire (wire.TooLong k len)) = inl (refl, frame_fault (stream.Wire (wire.TooLong k len)) refl)
 fault_either (stream.Wire (wire.NotJson k)) = inl (refl, frame_fault (stream.Wire (wire.NotJson k)) refl)
@@ -411,3 +411,33 @@ at_nine (Stream e) s = absurd (s_nine e s)
 at_nine (Follow e) s = let r = f_nine e s in (r.0, ap (λ (x : FollowEnd). Follow x) r.1)
 at_nine (Sim e) s = absurd (m_nine e s)
 at_nine (Load e) s = absurd (l_nine e s)
+
+-- no mode over a source and a sink has a door
+no_door : (f : SimFault) → script_status f ≡ 7 → ⊥
+no_door (sim.Event n) s = absurd (omega arith)
+no_door (sim.Feed n f) s = absurd (omega arith)
+no_door (sim.LongLine n) s = absurd (omega arith)
+no_door sim.TooMuch s = absurd (omega arith)
+no_door sim.Read s = absurd (omega arith)
+no_door sim.Write s = absurd (omega arith)
+no_door sim.NoMemory s = absurd (omega arith)
+
+pub at_seven : (e : Ending) → exit_status e ≡ 7 → ⊥
+at_seven Usage s = absurd (omega arith)
+at_seven Memory s = absurd (omega arith)
+at_seven (Stream stream_end.Done) s = absurd (omega arith)
+at_seven (Stream stream_end.Read) s = absurd (omega arith)
+at_seven (Stream stream_end.Write) s = absurd (omega arith)
+at_seven (Stream stream_end.Memory) s = absurd (omega arith)
+at_seven (Stream (stream_end.Fault f)) s = elim (feed_either f) [ inl p ↦ absurd (omega (arith, s, p.0)) | inr p ↦ absurd (omega (arith, s, p.0)) ]
+at_seven (Follow follow_end.Done) s = absurd (omega arith)
+at_seven (Follow follow_end.Read) s = absurd (omega arith)
+at_seven (Follow follow_end.Write) s = absurd (omega arith)
+at_seven (Follow follow_end.Memory) s = absurd (omega arith)
+at_seven (Follow (follow_end.Cut left)) s = absurd (omega arith)
+at_seven (Follow (follow_end.Fault f)) s = elim (fault_either f) [ inl p ↦ absurd (omega (arith, s, p.0)) | inr p ↦ absurd (omega (arith, s, p.0)) ]
+at_seven (Sim sim_end.Done) s = absurd (omega arith)
+at_seven (Sim (sim_end.Stopped f)) s = no_door f s
+at_seven (Load load_end.Done) s = absurd (omega arith)
+at_seven (Load load_end.Write) s = absurd (omega arith)
+at_seven (Load load_end.Memory) s = absurd (omega arith)

@@ -101,12 +101,14 @@ Loads n load_end.Memory old new = new ≡ old
 
 -- By what the words ask for
 
--- nothing is wrong with the input, and it ends outside a frame
+-- nothing is wrong with the input, and it ends outside a frame. What is handed on isn't said here
 abbrev pub IsGood : Command → List ℕ → Type 0
 IsGood (commands.Stream j) bytes = feed_fault (whole_feed bytes) ≡ None
 IsGood (commands.Follow brief) bytes = (ms : List Msg) × Hears bytes ms None × Reads bytes ms []
 IsGood commands.Sim bytes = script_fault (whole_feed bytes) ≡ None
 IsGood (commands.Load n) bytes = ⊤
+IsGood (commands.Serve words) bytes = ⊥
+IsGood (commands.FollowAt words) bytes = ⊥
 
 -- the cause of each ending
 abbrev pub Came : Option Command → Ending → Seen → Seen → Type 0

@@ -1,5 +1,11 @@
+pub mod Dialling
 pub mod Endings
 pub mod Headline
+pub mod LinkEndings
+pub mod Needs
 pub mod Notes
+pub mod Outcomes
+pub mod Program
+pub mod Serving
 pub mod Streamed
 pub mod steps

@@ -60,6 +60,9 @@ write_note = codes "typha: write fault\n"
 abbrev pub memory_note : List ℕ
 memory_note = codes "typha: out of memory\n"
 
+abbrev pub cut_note : ℕ → List ℕ
+cut_note left = with_number (codes "typha: stream cut ") left (codes "\n")
+
 abbrev pub stream_note : StreamEnd → List ℕ
 stream_note stream_end.Done = []
 stream_note (stream_end.Fault f) = feed_note f
@@ -70,7 +73,7 @@ stream_note stream_end.Memory = memory_note
 abbrev pub follow_note : FollowEnd → List ℕ
 follow_note follow_end.Done = []
 follow_note (follow_end.Fault f) = fault_note f
-follow_note (follow_end.Cut left) = with_number (codes "typha: stream cut ") left (codes "\n")
+follow_note (follow_end.Cut left) = cut_note left
 follow_note follow_end.Read = read_note
 follow_note follow_end.Write = write_note
 follow_note follow_end.Memory = memory_note

@@ -6,12 +6,27 @@ use ty_client::StreamFault;
 use ty_core::SimFault;
 use ty_intake::IntakeFault;
 use ty_wire::WireFault;
+use ty_words::{FollowWords, ServeWords};
 
-/// What the program does with the words, and its exit status.
-#[derive(Clone, Copy, Debug, PartialEq, Eq)]
+/// What comes of the words where there are no connections.
+#[derive(Drop)]
 pub enum Local {
-    /// It is done, with this status.
+    /// It is done, with this exit status.
     Done(u8),
+    /// The feed is to be served.
+    Serve(ServeWords),
+    /// A server is to be followed.
+    Follow(FollowWords),
+}
+
+/// The same before it is told of.
+#[derive(Drop)]
+pub(crate) enum Outcome {
+    /// A run that has ended so.
+    Ended(Ending),
+    /// Words that are handed on.
+    Serve(ServeWords),
+    Follow(FollowWords),
 }
 
 /// How a run ends, by what the words ask for.
@@ -159,7 +174,7 @@ fn script_status(fault: SimFault) -> u8
     }
 }
 
-fn fault_status(fault: StreamFault) -> u8
+pub(crate) fn fault_status(fault: StreamFault) -> u8
     ensures { result ≡ fault_status_of fault }
 {
     match fault {
@@ -168,7 +183,7 @@ fn fault_status(fault: StreamFault) -> u8
     }
 }
 
-fn feed_status(fault: IntakeFault) -> u8
+pub(crate) fn feed_status(fault: IntakeFault) -> u8
     ensures { result ≡ feed_status_of fault }
 {
     match fault {

@@ -4,7 +4,7 @@ ghost use Rattle.std.specs.Io.KnownBytes.{Appends};
 ghost use Rattle.ty_base.specs.Causes.{HasCause};
 ghost use Rattle.ty_base.specs.Fronts.{AppendsFront};
 ghost use Rattle.ty_client.specs.declared.fault.StreamFault.TheVariants.{Wire};
-ghost use Rattle.ty_top.specs.Notes.{note_of, stream_note, follow_note, sim_note, load_note, script_note, fault_note, feed_note, with_number, with_two_numbers, rising_note, IsNoted};
+ghost use Rattle.ty_top.specs.Notes.{note_of, cut_note, stream_note, follow_note, sim_note, load_note, script_note, fault_note, feed_note, with_number, with_two_numbers, rising_note, IsNoted};
 
 use crate::ending::{Ending, FollowEnd, LoadEnd, SimEnd, StreamEnd};
 use itoa::Buffer;
@@ -24,11 +24,11 @@ pub(crate) fn tell<E: Sink>(notes: &mut E, ending: Ending)
 const USAGE: &[u8] =
     b"usage: typha stream|follow|sim|load|serve [--from N] [--brief] [--at ADDR] [--host NAME] [--tries N] [--number N] [--workers N]\n";
 
-const READ: &[u8] = b"typha: read fault\n";
+pub(crate) const READ: &[u8] = b"typha: read fault\n";
 
-const WRITE: &[u8] = b"typha: write fault\n";
+pub(crate) const WRITE: &[u8] = b"typha: write fault\n";
 
-const MEMORY: &[u8] = b"typha: out of memory\n";
+pub(crate) const MEMORY: &[u8] = b"typha: out of memory\n";
 
 fn try_tell<E: Sink>(notes: &mut E, ending: Ending) -> Result<(), Failed>
     ensures ok { OnOk result (Appends (E.seen notes.old).held (E.seen notes.new).held (note_of ending)) }
@@ -67,11 +67,20 @@ fn tell_follow<E: Sink>(notes: &mut E, end: FollowEnd) -> Result<(), Failed>
     match end {
         FollowEnd::Done => give_all(notes, b""),
         FollowEnd::Fault(fault) => tell_fault(notes, fault),
-        FollowEnd::Cut(left) => give_with_number(notes, b"typha: stream cut ", left, b"\n"),
+        FollowEnd::Cut(left) => tell_cut(notes, left),
         FollowEnd::Read => give_all(notes, READ),
         FollowEnd::Write => give_all(notes, WRITE),
         FollowEnd::Memory => give_all(notes, MEMORY),
     }
+}
+
+// The end came inside a frame, of which there are so many bytes.
+pub(crate) fn tell_cut<E: Sink>(notes: &mut E, left: u64) -> Result<(), Failed>
+    ensures ok { OnOk result (Appends (E.seen notes.old).held (E.seen notes.new).held (cut_note left)) }
+    ensures err { OnErr result (AppendsFront (E.seen notes.old).held (E.seen notes.new).held (cut_note left)) }
+    ensures cause { HasCause (E.seen notes.old).faults (E.seen notes.new).faults result }
+{
+    give_with_number(notes, b"typha: stream cut ", left, b"\n")
 }
 
 fn tell_sim<E: Sink>(notes: &mut E, end: SimEnd) -> Result<(), Failed>
@@ -118,7 +127,7 @@ fn tell_script<E: Sink>(notes: &mut E, fault: SimFault) -> Result<(), Failed>
     }
 }
 
-fn tell_feed<E: Sink>(notes: &mut E, fault: IntakeFault) -> Result<(), Failed>
+pub(crate) fn tell_feed<E: Sink>(notes: &mut E, fault: IntakeFault) -> Result<(), Failed>
     ensures ok { OnOk result (Appends (E.seen notes.old).held (E.seen notes.new).held (feed_note fault)) }
     ensures err { OnErr result (AppendsFront (E.seen notes.old).held (E.seen notes.new).held (feed_note fault)) }
     ensures cause { HasCause (E.seen notes.old).faults (E.seen notes.new).faults result }
@@ -146,7 +155,7 @@ fn tell_feed<E: Sink>(notes: &mut E, fault: IntakeFault) -> Result<(), Failed>
     }
 }
 
-fn tell_fault<E: Sink>(notes: &mut E, fault: StreamFault) -> Result<(), Failed>
+pub(crate) fn tell_fault<E: Sink>(notes: &mut E, fault: StreamFault) -> Result<(), Failed>
     ensures ok { OnOk result (Appends (E.seen notes.old).held (E.seen notes.new).held (fault_note fault)) }
     ensures err { OnErr result (AppendsFront (E.seen notes.old).held (E.seen notes.new).held (fault_note fault)) }
     ensures cause { HasCause (E.seen notes.old).faults (E.seen notes.new).faults result }

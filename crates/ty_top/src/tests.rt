@@ -94,7 +94,11 @@ fn run(alloc: Global, words: &[&str], feed: &[u8], devices: Devices) -> Result<R
     let mut source = MemSource::new(alloc, pieces, vec![in alloc; devices.read_fails]?)?;
     let mut sink = MemSink::new(alloc, devices.room, vec![in alloc; devices.write_fails]?)?;
     let mut notes = MemSink::new(alloc, 1000, Vec::new(alloc))?;
-    let Local::Done(status) = local(alloc, &words, &mut source, &mut sink, &mut notes);
+    let status = match local(alloc, &words, &mut source, &mut sink, &mut notes) {
+        Local::Done(status) => status,
+        // The words are handed on, which is no exit status.
+        Local::Serve(_) | Local::Follow(_) => u8::MAX,
+    };
     Ok(Ran {
         status,
         given: sink.given().to_vec(alloc)?,

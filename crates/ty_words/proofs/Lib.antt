@@ -1,2 +1,4 @@
+pub mod Modes
 pub mod Options
 pub mod Parsing
+pub mod Fits

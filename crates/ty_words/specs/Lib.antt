@@ -1,3 +1,4 @@
 pub mod Cli
+pub mod Fitting
 pub mod Given
 pub mod Words

@@ -3,8 +3,13 @@
 
 mod cli;
 mod given;
+mod laws;
 #[cfg(test)]
 mod tests;
 mod words;
 
-pub use words::{Command, read_words};
+pub use laws::hosts_fit;
+pub use words::{
+    ADDRESS_BYTES, Command, FollowWords, GREATEST_TRIES, GREATEST_WORKERS, ServeWords,
+    USUAL_WORKERS, read_words,
+};

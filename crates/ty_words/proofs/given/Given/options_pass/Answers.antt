@@ -1,4 +1,4 @@
-use Rattle.std.proofs.Common.{◌≡◌, ◌∙◌, refl, sym, rules, true}
+use Rattle.std.proofs.Common.{◌∙◌, refl, sym, rules}
 use Rattle.clap.specs.Walk.{texts}
 use Rattle.ty_words.specs.Given.{passes}
 use Rattle.ty_words.proofs.Options.{none_left, one_fails, one_passes}

@@ -1,0 +1,10 @@
+//! Following a server over links that are dialled.
+#![tactic(auto)]
+
+mod dial;
+mod fault;
+#[cfg(test)]
+mod tests;
+
+pub use dial::follow_door;
+pub use fault::DialFault;
