@@ -6,6 +6,7 @@
 # stays: added ty_plain is the yardstick of ty_crumb, and shares nothing with it
 # stays: deleted the same
 # stays: updated the same
+# stays: kind_of a resource's kind by its plural in ty_keys, and the kind of a change in ty_map, which share nothing
 set -u
 stays=$(sed -n 's/^# stays: \([^ ]*\) .*/\1/p' "$0")
 cd "$(dirname "$0")/.."

@@ -24,9 +24,9 @@ use Rattle.ty_client.specs.Rebuilt.{Rebuilt, ats, ats_after, last_held, pongs}
 use Rattle.ty_client.specs.Heard.{Hears, Holds}
 use Rattle.ty_client.specs.Rebuild.{RebuildHeld, IsGoodUnless, IsGoodSoFar, ConnectionStands, BroughtHere}
 use Rattle.ty_client.specs.Text.{rebuilt_text}
-use Rattle.ty_client.specs.Linked.{Scene, scene, said, IsBrought, IsGivenAll, IsGivenFront, IsUnended, IsEnded, Linked, LinkedPart, LinkEnded, LinkStopped}
+use Rattle.ty_client.specs.Linked.{Scene, scene, client_talk, IsBrought, IsGivenAll, IsGivenFront, EndIsAsBefore, EndIsTaken, Linked, LinkedPart, LinkEnded, LinkStopped}
 use Rattle.ty_client.specs.steps.Given.{Wrote}
-use Rattle.ty_client.specs.steps.Links.{Opening, opening, Exchanges, Reached, Goes, CameTo, ByTaken, GoesOn, TakesOn, Begins, by_fault}
+use Rattle.ty_client.specs.steps.Links.{Opening, opened_with, ExchangesUnended, HasReached, Goes, LinkCameTo, ByTaken, GoesOnOrStops, TakesOn, Begins, by_fault}
 use Rattle.ty_client.specs.steps.Pieces.{EndsAt}
 use Rattle.ty_client.proofs.Connections.{holds_more, none_left}
 use Rattle.ty_client.proofs.Followed.{text_more, open_of, nothing_of}
@@ -34,30 +34,30 @@ use Rattle.ty_client.proofs.Judging.{ats_more, ats_none, pongs_more, last_more}
 
 -- what a link tells over one call
 
-exchanges_same : (x y : Sight) → y ≡ x → Exchanges [] [] x y
+exchanges_same : (x y : Sight) → y ≡ x → ExchangesUnended [] [] x y
 exchanges_same x y e = record {
   gave = ap (λ (s : Sight). s.given) e ∙ sym (append-nil x.given);
   came = ap (λ (s : Sight). s.brought) e ∙ sym (append-nil x.brought);
   unended = ap (λ (s : Sight). s.ended) e;
 }
 
-exchanges_still : (x : Option Sight) → Told (Exchanges [] []) x x
-exchanges_still x = Told-still (Exchanges [] []) (λ s. exchanges_same s s refl) x
+exchanges_still : (x : Option Sight) → Told (ExchangesUnended [] []) x x
+exchanges_still x = Told-still (ExchangesUnended [] []) (λ s. exchanges_same s s refl) x
 
-exchanges_then : (f g h k : List ℕ) (x y z : Sight) → Exchanges f h x y → Exchanges g k y z → Exchanges (f ++ g) (h ++ k) x z
+exchanges_then : (f g h k : List ℕ) (x y z : Sight) → ExchangesUnended f h x y → ExchangesUnended g k y z → ExchangesUnended (f ++ g) (h ++ k) x z
 exchanges_then f g h k x y z p q = record {
   gave = q.gave ∙ ap (λ (l : List ℕ). l ++ g) p.gave ∙ append_assoc x.given f g;
   came = q.came ∙ ap (λ (l : List ℕ). l ++ k) p.came ∙ append_assoc x.brought h k;
   unended = q.unended ∙ p.unended;
 }
 
-told_then : (f g h k : List ℕ) (x y z : Option Sight) → Told (Exchanges f h) x y → Told (Exchanges g k) y z → Told (Exchanges (f ++ g) (h ++ k)) x z
+told_then : (f g h k : List ℕ) (x y z : Option Sight) → Told (ExchangesUnended f h) x y → Told (ExchangesUnended g k) y z → Told (ExchangesUnended (f ++ g) (h ++ k)) x z
 told_then f g h k x y z p q = Told-then (exchanges_then f g h k) x y z p q
 
-pub told_same : (x y : Option Sight) → Told IsSame x y → Told (Exchanges [] []) x y
+pub told_same : (x y : Option Sight) → Told IsSame x y → Told (ExchangesUnended [] []) x y
 told_same x y h = Told-as exchanges_same x y h
 
-pub told_given : (n : ℕ) (piece : List ℕ) (x y : Option Sight) → Told (IsGiven n piece) x y → Told (Exchanges (take n piece) []) x y
+pub told_given : (n : ℕ) (piece : List ℕ) (x y : Option Sight) → Told (IsGiven n piece) x y → Told (ExchangesUnended (take n piece) []) x y
 told_given n piece x y h =
     Told-as (λ p q e. record {
       gave = ap (λ (s : Sight). s.given) e;
@@ -65,7 +65,7 @@ told_given n piece x y h =
       unended = ap (λ (s : Sight). s.ended) e;
     }) x y h
 
-pub told_bytes : (n : ℕ) (buf : List ℕ) (x y : Option Sight) → Told (Takes (Bytes n) buf) x y → Told (Exchanges [] (take n buf)) x y
+pub told_bytes : (n : ℕ) (buf : List ℕ) (x y : Option Sight) → Told (Takes (Bytes n) buf) x y → Told (ExchangesUnended [] (take n buf)) x y
 told_bytes n buf x y h =
     Told-as (λ p q k. record {
       gave = ap (λ (s : Sight). s.given) k.3 ∙ sym (append-nil p.given);
@@ -73,7 +73,7 @@ told_bytes n buf x y h =
       unended = ap (λ (s : Sight). s.ended) k.3;
     }) x y h
 
-pub told_quiet : (buf : List ℕ) (x y : Option Sight) → Told (Takes Quiet buf) x y → Told (Exchanges [] []) x y
+pub told_quiet : (buf : List ℕ) (x y : Option Sight) → Told (Takes Quiet buf) x y → Told (ExchangesUnended [] []) x y
 told_quiet buf x y h =
     Told-as (λ p q k. record {
       gave = ap (λ (s : Sight). s.given) k.2 ∙ sym (append-nil p.given);
@@ -83,15 +83,15 @@ told_quiet buf x y h =
 
 -- what a connection that went so far comes to where it goes no further
 
-given_front : (sent up whole heard : List ℕ) (x y : Option Sight) → sent ++ up ≡ whole → Told (Exchanges sent heard) x y → Told (IsGivenFront whole) x y
+given_front : (sent up whole heard : List ℕ) (x y : Option Sight) → sent ++ up ≡ whole → Told (ExchangesUnended sent heard) x y → Told (IsGivenFront whole) x y
 given_front sent up whole heard x y q h = Told-as (λ p r e. (sent, up, sym q, e.gave)) x y h
 
-linked : (o : Opening) (now : Scene) (r : Reached o now) (f : Option StreamFault) → now.rebuild.fault ≡ f → Appends o.old.sink.held now.sink.held (rebuilt_text o.brief (ats r.ms)) → Linked o.host o.brief o.old now f
+linked : (o : Opening) (now : Scene) (r : HasReached o now) (f : Option StreamFault) → now.rebuild.fault ≡ f → Appends o.old.sink.held now.sink.held (rebuilt_text o.brief (ats r.ms)) → Linked o.host o.brief o.old now f
 linked o now r f e w = record {
   bytes = r.bytes;
   ms = r.ms;
   brought = Told-as (λ p q k. k.came) o.old.sight now.sight r.exchanged;
-  given = given_front r.sent now.rebuild.up (said o.host r.ms) r.bytes o.old.sight now.sight r.queued r.exchanged;
+  given = given_front r.sent now.rebuild.up (client_talk o.host r.ms) r.bytes o.old.sight now.sight r.queued r.exchanged;
   hears = subst (λ (x : Option StreamFault). Hears r.bytes r.ms x) e r.stands.hears;
   stands = λ connections h. record {
     unspent = r.stands.unspent;
@@ -104,21 +104,21 @@ linked o now r f e w = record {
   written = w;
 }
 
-unended : (o : Opening) (now : Scene) (r : Reached o now) → Told IsUnended o.old.sight now.sight
+unended : (o : Opening) (now : Scene) (r : HasReached o now) → Told EndIsAsBefore o.old.sight now.sight
 unended o now r = Told-as (λ p q k. k.unended) o.old.sight now.sight r.exchanged
 
 -- it went so far, then the link brought bytes that weren't heard
-part : (o : Opening) (then_ now : Scene) (r : Reached o then_) (unheard : List ℕ) → Told (Exchanges [] unheard) then_.sight now.sight → now.rebuild.held ≡ then_.rebuild.held
+part : (o : Opening) (then_ now : Scene) (r : HasReached o then_) (unheard : List ℕ) → Told (ExchangesUnended [] unheard) then_.sight now.sight → now.rebuild.held ≡ then_.rebuild.held
     → AppendsFront o.old.sink.held now.sink.held (rebuilt_text o.brief (ats r.ms)) → (p : LinkedPart o.host o.brief o.old now) × (p.unheard ≡ unheard)
 part o then_ now r unheard t k w =
-    let both : Told (Exchanges (r.sent ++ []) (r.bytes ++ unheard)) o.old.sight now.sight = told_then r.sent [] r.bytes unheard o.old.sight then_.sight now.sight r.exchanged t in (
+    let both : Told (ExchangesUnended (r.sent ++ []) (r.bytes ++ unheard)) o.old.sight now.sight = told_then r.sent [] r.bytes unheard o.old.sight then_.sight now.sight r.exchanged t in (
       record {
         bytes = r.bytes;
         unheard = unheard;
         ms = r.ms;
         fault = then_.rebuild.fault;
         brought = Told-as (λ p q e. e.came) o.old.sight now.sight both;
-        given = given_front (r.sent ++ []) then_.rebuild.up (said o.host r.ms) (r.bytes ++ unheard) o.old.sight now.sight (ap (λ (l : List ℕ). l ++ then_.rebuild.up) (append-nil r.sent) ∙ r.queued) both;
+        given = given_front (r.sent ++ []) then_.rebuild.up (client_talk o.host r.ms) (r.bytes ++ unheard) o.old.sight now.sight (ap (λ (l : List ℕ). l ++ then_.rebuild.up) (append-nil r.sent) ∙ r.queued) both;
         unended = Told-as (λ p q e. e.unended) o.old.sight now.sight both;
         hears = r.stands.hears;
         holds = λ connections h. subst (λ (x : Option Rebuilt). Holds (connections ++ r.bytes ∷ []) x) (sym (k ∙ r.held))
@@ -132,8 +132,8 @@ all_front : (a b : Option (List ℕ)) (x : List ℕ) → Appends a b x → Appen
 all_front a b x h = (x, [], sym (append-nil x), h)
 
 -- it went so far, and nothing was changed since but the link's bytes; then memory ran out
-pub runs_short : (A : Type 0) (o : Opening) (then_ now : Scene) (Good : A → Type 0) (unheard : List ℕ) → Goes o then_ → Told (Exchanges [] unheard) then_.sight now.sight → now.rebuild.held ≡ then_.rebuild.held → now.sink ≡ then_.sink
-    → then_.faults ≤ now.faults → CameTo {A = A} o now Good (Err NoMemory)
+pub runs_short : (A : Type 0) (o : Opening) (then_ now : Scene) (Good : A → Type 0) (unheard : List ℕ) → Goes o then_ → Told (ExchangesUnended [] unheard) then_.sight now.sight → now.rebuild.held ≡ then_.rebuild.held → now.sink ≡ then_.sink
+    → then_.faults ≤ now.faults → LinkCameTo {A = A} o now Good (Err NoMemory)
 runs_short A o then_ now Good unheard g t k s le = record {
   ok = tt;
   stopped = (part o then_ now g.reached unheard t k (subst (λ (x : Output). AppendsFront o.old.sink.held x.held (rebuilt_text o.brief (ats g.reached.ms))) (sym s) (all_front _ _ _ g.written))).0;
@@ -141,12 +141,12 @@ runs_short A o then_ now Good unheard g t k s le = record {
   sink_later = omega (arith, g.reached.sink_later, ap (λ (x : Output). x.faults) s);
 }
 
-pub short_here : (A : Type 0) (o : Opening) (now : Scene) (Good : A → Type 0) → Goes o now → CameTo {A = A} o now Good (Err NoMemory)
+pub short_here : (A : Type 0) (o : Opening) (now : Scene) (Good : A → Type 0) → Goes o now → LinkCameTo {A = A} o now Good (Err NoMemory)
 short_here A o now Good g = runs_short A o now now Good [] g (exchanges_still now.sight) refl refl (omega arith)
 
 -- how it goes on
 
-said_more : (host : List ℕ) (ms more : List Msg) → said host (ms ++ more) ≡ said host ms ++ frames (pongs more)
+said_more : (host : List ℕ) (ms more : List Msg) → client_talk host (ms ++ more) ≡ client_talk host ms ++ frames (pongs more)
 said_more host ms more =
     ap (λ (l : List ℕ). frame (ClientHello 1 host) ++ l) (pongs_more ms more)
     ∙ sym (append_assoc (frame (ClientHello 1 host)) (frames (pongs ms)) (frames (pongs more)))
@@ -160,16 +160,16 @@ held_more old a b ms more e f =
     f ∙ ap (λ (x : Option Rebuilt). last_held x (ats_after ms more)) e ∙ sym (last_more old (ats ms) (ats_after ms more))
     ∙ ap (last_held old) (sym (ats_more [] ms more))
 
-reached_on : (o : Opening) (a b : Scene) (r : Reached o a) (sent heard : List ℕ) (more : List Msg) → Told (Exchanges sent heard) a.sight b.sight → ConnectionStands b.rebuild (r.bytes ++ heard) (r.ms ++ more)
+reached_on : (o : Opening) (a b : Scene) (r : HasReached o a) (sent heard : List ℕ) (more : List Msg) → Told (ExchangesUnended sent heard) a.sight b.sight → ConnectionStands b.rebuild (r.bytes ++ heard) (r.ms ++ more)
     → b.rebuild.held ≡ last_held a.rebuild.held (ats_after r.ms more) → sent ++ b.rebuild.up ≡ a.rebuild.up ++ frames (pongs more) → a.faults ≤ b.faults → a.sink.faults ≤ b.sink.faults
-    → (s : Reached o b) × (s.ms ≡ r.ms ++ more)
+    → (s : HasReached o b) × (s.ms ≡ r.ms ++ more)
 reached_on o a b r sent heard more t st k q le ls = (
   record {
     bytes = r.bytes ++ heard;
     ms = r.ms ++ more;
     sent = r.sent ++ sent;
     exchanged = told_then r.sent sent r.bytes heard o.old.sight a.sight b.sight r.exchanged t;
-    queued = queued_more r.sent sent a.rebuild.up b.rebuild.up (frames (pongs more)) (said o.host r.ms) r.queued q ∙ sym (said_more o.host r.ms more);
+    queued = queued_more r.sent sent a.rebuild.up b.rebuild.up (frames (pongs more)) (client_talk o.host r.ms) r.queued q ∙ sym (said_more o.host r.ms more);
     stands = st;
     held = held_more o.old.rebuild.held a.rebuild.held b.rebuild.held r.ms more r.held k;
     link_later = omega (arith, r.link_later, le);
@@ -191,7 +191,7 @@ text_still : (brief : Bool) (a b : Option (List ℕ)) (ms ns : List Msg) → ns 
 text_still brief a b ms ns e h = subst (λ (l : List Msg). Appends a b (rebuilt_text brief (ats l))) (sym (e ∙ append-nil ms)) h
 
 -- bytes that were queued were given, and nothing else has changed
-goes_still : (o : Opening) (a b : Scene) (sent : List ℕ) → Goes o a → Told (Exchanges sent []) a.sight b.sight → b.rebuild ≡ record a.rebuild { up = b.rebuild.up } → sent ++ b.rebuild.up ≡ a.rebuild.up → b.sink ≡ a.sink → a.faults ≤ b.faults → Goes o b
+goes_still : (o : Opening) (a b : Scene) (sent : List ℕ) → Goes o a → Told (ExchangesUnended sent []) a.sight b.sight → b.rebuild ≡ record a.rebuild { up = b.rebuild.up } → sent ++ b.rebuild.up ≡ a.rebuild.up → b.sink ≡ a.sink → a.faults ≤ b.faults → Goes o b
 goes_still o a b sent g t e q s le =
     let r = reached_on o a b g.reached sent [] [] t (stands_still a.rebuild b.rebuild g.reached.bytes g.reached.ms e g.reached.stands)
     (held_still a.rebuild.held b.rebuild.held g.reached.ms (ap (λ (x : RebuildHeld). x.held) e)) (q ∙ sym (append-nil a.rebuild.up)) le (omega (arith, ap (λ (x : Output). x.faults) s)) in
@@ -201,17 +201,17 @@ goes_still o a b sent g t e q s le =
       written = text_still o.brief o.old.sink.held b.sink.held g.reached.ms r.0.ms r.1 (subst (λ (x : Output). Appends o.old.sink.held x.held (rebuilt_text o.brief (ats g.reached.ms))) (sym s) g.written);
     }
 
-pub goes_good : {A : Type 0} (o : Opening) (now : Scene) (Good : A → Type 0) (x : A) → Goes o now → Good x → CameTo {A = A} o now Good (Ok x)
+pub goes_good : {A : Type 0} (o : Opening) (now : Scene) (Good : A → Type 0) (x : A) → Goes o now → Good x → LinkCameTo {A = A} o now Good (Ok x)
 goes_good o now Good x g good = record { ok = good; stopped = tt; link_later = g.reached.link_later; sink_later = g.reached.sink_later }
 
 -- giving
 
 pub gives_piece : (brief : Bool) (r s : RebuildHeld) (x y : Option Sight) (n m : ℕ) (sink : Output) (count end : ℕ) → count ≤ end → Told (IsGiven count (take end r.up)) x y → n ≤ m → s ≡ record r { up = drop count r.up }
-    → GoesOn brief (scene r x n sink) (scene s y m sink) (Ok tt)
+    → GoesOnOrStops brief (scene r x n sink) (scene s y m sink) (Ok tt)
 gives_piece brief r s x y n m sink count end h t le e = λ host old g.
-    let o : Opening = opening host brief old in
+    let o : Opening = opened_with host brief old in
     let up : s.up ≡ drop count r.up = ap (λ (v : RebuildHeld). v.up) e in
-    let sent : Told (Exchanges (take count r.up) []) x y = subst (λ (l : List ℕ). Told (Exchanges l []) x y) (take-take count end r.up h) (told_given count (take end r.up) x y t) in
+    let sent : Told (ExchangesUnended (take count r.up) []) x y = subst (λ (l : List ℕ). Told (ExchangesUnended l []) x y) (take-take count end r.up h) (told_given count (take end r.up) x y t) in
     let goes : Goes o (scene s y m sink) = goes_still o (scene r x n sink) (scene s y m sink) (take count r.up) g sent (e ∙ ap (λ (l : List ℕ). record r { up = l }) (sym up))
     (ap (λ (l : List ℕ). take count r.up ++ l) up ∙ take-append-drop count r.up) refl le in
     goes_good o (scene s y m sink) (λ _. Goes o (scene s y m sink)) tt goes goes
@@ -219,14 +219,14 @@ gives_piece brief r s x y n m sink count end h t le e = λ host old g.
 pub shorter : (r s : RebuildHeld) (n : ℕ) → 0 < n → n ≤ length r.up → s ≡ record r { up = drop n r.up } → length s.up < length r.up
 shorter r s n some h e = omega (arith, some, h, ap (λ (v : RebuildHeld). length v.up) e, length-drop n r.up)
 
-pub goes_then : (brief : Bool) (a b c : Scene) (result : Result (Unit {0}) FollowFault) → GoesOn brief a b (Ok tt) → GoesOn brief b c result → GoesOn brief a c result
+pub goes_then : (brief : Bool) (a b c : Scene) (result : Result (Unit {0}) FollowFault) → GoesOnOrStops brief a b (Ok tt) → GoesOnOrStops brief b c result → GoesOnOrStops brief a c result
 goes_then brief a b c result p q = λ host old g. q host old (p host old g).ok
 
-pub goes_nowhere : (brief : Bool) (a : Scene) → GoesOn brief a a (Ok tt)
-goes_nowhere brief a = λ host old g. goes_good (opening host brief old) a (λ _. Goes (opening host brief old) a) tt g g
+pub goes_nowhere : (brief : Bool) (a : Scene) → GoesOnOrStops brief a a (Ok tt)
+goes_nowhere brief a = λ host old g. goes_good (opened_with host brief old) a (λ _. Goes (opened_with host brief old) a) tt g g
 
 -- the link failed
-pub link_fails : (A : Type 0) (o : Opening) (r : RebuildHeld) (x y : Option Sight) (n m : ℕ) (sink : Output) (Good : A → Type 0) → Goes o (scene r x n sink) → Told IsSame x y → n ≤ m → Rose n m → CameTo {A = A} o (scene r y m sink) Good (Err Link)
+pub link_fails : (A : Type 0) (o : Opening) (r : RebuildHeld) (x y : Option Sight) (n m : ℕ) (sink : Output) (Good : A → Type 0) → Goes o (scene r x n sink) → Told IsSame x y → n ≤ m → Rose n m → LinkCameTo {A = A} o (scene r y m sink) Good (Err Link)
 link_fails A o r x y n m sink Good g t le rose =
     let goes : Goes o (scene r y m sink) = goes_still o (scene r x n sink) (scene r y m sink) [] g (told_same x y t) refl refl refl le in
     record {
@@ -240,11 +240,11 @@ link_fails A o r x y n m sink Good g t le rose =
 
 pub takes_quiet : (brief : Bool) (r : RebuildHeld) (x y : Option Sight) (n m : ℕ) (sink : Output) (buf : List ℕ) → Told (Takes Quiet buf) x y → n ≤ m → TakesOn brief (scene r x n sink) (scene r y m sink) (Ok More)
 takes_quiet brief r x y n m sink buf t le = λ host old g.
-    let o : Opening = opening host brief old in
+    let o : Opening = opened_with host brief old in
     let goes : Goes o (scene r y m sink) = goes_still o (scene r x n sink) (scene r y m sink) [] g (told_quiet buf x y t) refl refl refl le in
     goes_good o (scene r y m sink) (ByTaken o (scene r y m sink)) More goes goes
 
-pub takes_bytes : (brief : Bool) (a b : Scene) (u : Unit {0}) → GoesOn brief a b (Ok u) → TakesOn brief a b (Ok More)
+pub takes_bytes : (brief : Bool) (a b : Scene) (u : Unit {0}) → GoesOnOrStops brief a b (Ok u) → TakesOn brief a b (Ok More)
 takes_bytes brief a b u h = λ host old g.
     let k = h host old g in
     record { ok = k.ok; stopped = tt; link_later = k.link_later; sink_later = k.sink_later }
@@ -255,21 +255,21 @@ ended_link : (o : Opening) (r : RebuildHeld) (x y : Option Sight) (n m : ℕ) (s
 unfolding linked
 ended_link o r x y n m sink buf rest g empty t reads =
     let f = g.reached in
-    let all : f.sent ≡ said o.host f.ms = sym (append-nil f.sent) ∙ ap (λ (l : List ℕ). f.sent ++ l) (sym empty) ∙ f.queued in
+    let all : f.sent ≡ client_talk o.host f.ms = sym (append-nil f.sent) ∙ ap (λ (l : List ℕ). f.sent ++ l) (sym empty) ∙ f.queued in
     let gave : Told (IsGivenAll f.sent) o.old.sight y =
-    Told-then {P = Exchanges f.sent f.bytes} {Q = Takes End buf} {R = IsGivenAll f.sent} (λ p q z e k. ap (λ (s : Sight). s.given) k.1 ∙ e.gave) o.old.sight x y f.exchanged t in
+    Told-then {P = ExchangesUnended f.sent f.bytes} {Q = Takes End buf} {R = IsGivenAll f.sent} (λ p q z e k. ap (λ (s : Sight). s.given) k.1 ∙ e.gave) o.old.sight x y f.exchanged t in
     let goes = linked o (scene r x n sink) f None g.no_fault g.written in
     record {
       linked = record {
         bytes = f.bytes;
         ms = f.ms;
-        brought = Told-then {P = Exchanges f.sent f.bytes} {Q = Takes End buf} {R = IsBrought f.bytes} (λ p q z e k. ap (λ (s : Sight). s.brought) k.1 ∙ e.came) o.old.sight x y f.exchanged t;
+        brought = Told-then {P = ExchangesUnended f.sent f.bytes} {Q = Takes End buf} {R = IsBrought f.bytes} (λ p q z e k. ap (λ (s : Sight). s.brought) k.1 ∙ e.came) o.old.sight x y f.exchanged t;
         given = Told-as (λ p q e. (f.sent, [], sym (append-nil f.sent ∙ all), e)) o.old.sight y gave;
         hears = goes.hears;
         stands = goes.stands;
         written = g.written;
       };
-      ended = Told-then {P = Exchanges f.sent f.bytes} {Q = Takes End buf} {R = IsEnded} (λ p q z e k. (ap (λ (s : Sight). s.ended) k.1, subst (λ (c : List Coming). IsOver c) (sym (ap (λ (s : Sight). s.coming) k.1)) k.0)) o.old.sight x y f.exchanged t;
+      ended = Told-then {P = ExchangesUnended f.sent f.bytes} {Q = Takes End buf} {R = EndIsTaken} (λ p q z e k. (ap (λ (s : Sight). s.ended) k.1, subst (λ (c : List Coming). IsOver c) (sym (ap (λ (s : Sight). s.coming) k.1)) k.0)) o.old.sight x y f.exchanged t;
       given_all = subst (λ (l : List ℕ). Told (IsGivenAll l) o.old.sight y) all gave;
       reads = reads;
     }
@@ -280,13 +280,13 @@ by_end (Err fault) o now rest n d = (tt, subst (λ (e : FollowFault). LinkStoppe
 
 -- a connection that went until then is over
 abbrev pub EndsHere : Bool → Scene → Scene → Result (Unit {0}) FollowFault → Type 0
-EndsHere brief then_ now result = (host : List ℕ) (old : Scene) → Goes (opening host brief old) then_ → CameTo (opening host brief old) now (λ _. LinkEnded host brief old now []) result
+EndsHere brief then_ now result = (host : List ℕ) (old : Scene) → Goes (opened_with host brief old) then_ → LinkCameTo (opened_with host brief old) now (λ _. LinkEnded host brief old now []) result
 
 pub takes_end : (result : Result (Unit {0}) FollowFault) (brief : Bool) (r : RebuildHeld) (x y : Option Sight) (n m : ℕ) (sink : Output) (buf : List ℕ) → r.up ≡ [] → Told (Takes End buf) x y → n ≤ m
     → ((bytes rest : List ℕ) (ms : List Msg) → ConnectionStands r bytes ms → r.fault ≡ None → Reads bytes ms rest → EndsAt result (length rest))
     → EndsHere brief (scene r x n sink) (scene r y m sink) result
 takes_end result brief r x y n m sink buf empty t le k = λ host old g.
-    let o : Opening = opening host brief old in
+    let o : Opening = opened_with host brief old in
     let f = g.reached in
     let good : IsGoodSoFar r.unread r.stage f.bytes f.ms = subst (λ (e : Option StreamFault). IsGoodUnless e r.unread r.stage f.bytes f.ms) g.no_fault f.stands.goes_on in
     let opens : FramesOpen r.unread f.bytes f.ms = open_of r.unread r.stage f.bytes f.ms good in
@@ -298,9 +298,9 @@ takes_end result brief r x y n m sink buf empty t le k = λ host old g.
 abbrev pub IsBroughtIn : RebuildHeld → RebuildHeld → List ℕ → List Rebuilt → Type 0
 IsBroughtIn r s piece at_ends = (bytes : List ℕ) (ms : List Msg) → ConnectionStands r bytes ms → BroughtHere r s bytes piece ms at_ends
 
-reached_heard : (o : Opening) (a b : Scene) (r : Reached o a) (piece : List ℕ) (at_ends : List Rebuilt) → Told (Exchanges [] piece) a.sight b.sight → BroughtHere a.rebuild b.rebuild r.bytes piece r.ms at_ends
+reached_heard : (o : Opening) (a b : Scene) (r : HasReached o a) (piece : List ℕ) (at_ends : List Rebuilt) → Told (ExchangesUnended [] piece) a.sight b.sight → BroughtHere a.rebuild b.rebuild r.bytes piece r.ms at_ends
     → b.rebuild.held ≡ last_held a.rebuild.held at_ends → a.faults ≤ b.faults → a.sink.faults ≤ b.sink.faults
-    → (s : Reached o b) × (rebuilt_text o.brief (ats s.ms) ≡ rebuilt_text o.brief (ats r.ms) ++ rebuilt_text o.brief at_ends)
+    → (s : HasReached o b) × (rebuilt_text o.brief (ats s.ms) ≡ rebuilt_text o.brief (ats r.ms) ++ rebuilt_text o.brief at_ends)
 reached_heard o a b r piece at_ends t h k le ls =
     let s = reached_on o a b r [] piece h.more t h.stands (k ∙ ap (last_held a.rebuild.held) h.at_ends_are) h.up le ls in (
       s.0,
@@ -308,7 +308,7 @@ reached_heard o a b r piece at_ends t h k le ls =
           ∙ ap (λ (l : List Rebuilt). rebuilt_text o.brief (ats r.ms) ++ rebuilt_text o.brief l) (sym h.at_ends_are),
     )
 
-by_heard : (f : Option StreamFault) (o : Opening) (b : Scene) (r : Reached o b) → f ≡ b.rebuild.fault → Appends o.old.sink.held b.sink.held (rebuilt_text o.brief (ats r.ms)) → CameTo o b (λ _. Goes o b) (by_fault f)
+by_heard : (f : Option StreamFault) (o : Opening) (b : Scene) (r : HasReached o b) → f ≡ b.rebuild.fault → Appends o.old.sink.held b.sink.held (rebuilt_text o.brief (ats r.ms)) → LinkCameTo o b (λ _. Goes o b) (by_fault f)
 by_heard None o b r e w =
     let goes : Goes o b = record { reached = r; no_fault = sym e; written = w } in
     goes_good o b (λ _. Goes o b) tt goes goes
@@ -317,37 +317,37 @@ by_heard (Some f) o b r e w = record { ok = tt; stopped = (linked o b r (Some f)
 module _ (brief : Bool) (r s : RebuildHeld) (x y : Option Sight) (n m : ℕ) (k j : Output) (piece : List ℕ) (at_ends : List Rebuilt) where
   -- the text was given whole
   pub hears_all : (f : Option StreamFault) (u : Unit {0}) → IsBroughtIn r s piece at_ends → s.held ≡ last_held r.held at_ends → f ≡ s.fault → Wrote {T = Unit {0}} (Ok u) k.held j.held k.faults j.faults (rebuilt_text brief at_ends)
-      → Told (Exchanges [] piece) x y → n ≤ m → GoesOn brief (scene r x n k) (scene s y m j) (by_fault f)
+      → Told (ExchangesUnended [] piece) x y → n ≤ m → GoesOnOrStops brief (scene r x n k) (scene s y m j) (by_fault f)
   hears_all f u br h e w t le = λ host old g.
-      let o : Opening = opening host brief old in
+      let o : Opening = opened_with host brief old in
       let z = reached_heard o (scene r x n k) (scene s y m j) g.reached piece at_ends t (br g.reached.bytes g.reached.ms g.reached.stands) h le w.later in
       by_heard f o (scene s y m j) z.0 e (subst (λ (l : List ℕ). Appends old.sink.held j.held l) (sym z.1) (Appends-then old.sink.held k.held j.held (rebuilt_text brief (ats g.reached.ms)) (rebuilt_text brief at_ends) g.written w.ok))
 
   -- a front of it was given
-  cut_text : (o : Opening) (g : Goes o (scene r x n k)) (z : Reached o (scene s y m j)) → rebuilt_text o.brief (ats z.ms) ≡ rebuilt_text o.brief (ats g.reached.ms) ++ rebuilt_text o.brief at_ends → AppendsFront k.held j.held (rebuilt_text o.brief at_ends)
+  cut_text : (o : Opening) (g : Goes o (scene r x n k)) (z : HasReached o (scene s y m j)) → rebuilt_text o.brief (ats z.ms) ≡ rebuilt_text o.brief (ats g.reached.ms) ++ rebuilt_text o.brief at_ends → AppendsFront k.held j.held (rebuilt_text o.brief at_ends)
       → (p : LinkedPart o.host o.brief o.old (scene s y m j)) × (p.unheard ≡ [])
   cut_text o g z e w =
       part o (scene s y m j) (scene s y m j) z [] (exchanges_still y) refl (subst (λ (l : List ℕ). AppendsFront o.old.sink.held j.held l) (sym e)
       (AppendsFront-after o.old.sink.held k.held j.held (rebuilt_text o.brief (ats g.reached.ms)) (rebuilt_text o.brief at_ends) g.written w))
 
   pub hears_unwritten : IsBroughtIn r s piece at_ends → s.held ≡ last_held r.held at_ends → AppendsFront k.held j.held (rebuilt_text brief at_ends) → k.faults ≤ j.faults → Rose k.faults j.faults
-      → Told (Exchanges [] piece) x y → n ≤ m → GoesOn brief (scene r x n k) (scene s y m j) (Err Write)
+      → Told (ExchangesUnended [] piece) x y → n ≤ m → GoesOnOrStops brief (scene r x n k) (scene s y m j) (Err Write)
   hears_unwritten br h w later rose t le = λ host old g.
-      let o : Opening = opening host brief old in
+      let o : Opening = opened_with host brief old in
       let z = reached_heard o (scene r x n k) (scene s y m j) g.reached piece at_ends t (br g.reached.bytes g.reached.ms g.reached.stands) h le later in
       record { ok = tt; stopped = (cut_text o g z.0 z.1 w, omega (arith, g.reached.sink_later, rose)); link_later = z.0.link_later; sink_later = z.0.sink_later }
 
   pub hears_short : IsBroughtIn r s piece at_ends → s.held ≡ last_held r.held at_ends → AppendsFront k.held j.held (rebuilt_text brief at_ends) → k.faults ≤ j.faults
-      → Told (Exchanges [] piece) x y → n ≤ m → GoesOn brief (scene r x n k) (scene s y m j) (Err NoMemory)
+      → Told (ExchangesUnended [] piece) x y → n ≤ m → GoesOnOrStops brief (scene r x n k) (scene s y m j) (Err NoMemory)
   hears_short br h w later t le = λ host old g.
-      let o : Opening = opening host brief old in
+      let o : Opening = opened_with host brief old in
       let z = reached_heard o (scene r x n k) (scene s y m j) g.reached piece at_ends t (br g.reached.bytes g.reached.ms g.reached.stands) h le later in
       record { ok = tt; stopped = (cut_text o g z.0 z.1 w).0; link_later = z.0.link_later; sink_later = z.0.sink_later }
 
 -- nothing of it was heard
-pub hears_nothing_of : (brief : Bool) (r s : RebuildHeld) (x y : Option Sight) (n m : ℕ) (k : Output) (piece : List ℕ) → s.held ≡ r.held → Told (Exchanges [] piece) x y → n ≤ m → GoesOn brief (scene r x n k) (scene s y m k) (Err NoMemory)
+pub hears_nothing_of : (brief : Bool) (r s : RebuildHeld) (x y : Option Sight) (n m : ℕ) (k : Output) (piece : List ℕ) → s.held ≡ r.held → Told (ExchangesUnended [] piece) x y → n ≤ m → GoesOnOrStops brief (scene r x n k) (scene s y m k) (Err NoMemory)
 hears_nothing_of brief r s x y n m k piece e t le = λ host old g.
-    runs_short (Unit {0}) (opening host brief old) (scene r x n k) (scene s y m k) (λ _. Goes (opening host brief old) (scene s y m k)) piece g t e refl le
+    runs_short (Unit {0}) (opened_with host brief old) (scene r x n k) (scene s y m k) (λ _. Goes (opened_with host brief old) (scene s y m k)) piece g t e refl le
 
 -- the beginning
 
@@ -356,7 +356,7 @@ text_none brief a = subst (λ (l : List Rebuilt). Appends a a (rebuilt_text brie
 
 pub link_begins : (host : List ℕ) (r s t : RebuildHeld) → ConnectionStands s [] [] → s.held ≡ r.held → s.up ≡ [] → s.fault ≡ None → t ≡ record s { up = s.up ++ frame (ClientHello 1 host) } → Begins host r t (Ok tt)
 link_begins host r s t st h empty f e = λ brief sight faults sink.
-    let o : Opening = opening host brief (scene r sight faults sink) in
+    let o : Opening = opened_with host brief (scene r sight faults sink) in
     let goes : Goes o (scene t sight faults sink) = record {
       reached = record {
         bytes = [];
@@ -386,7 +386,7 @@ begins_short host r s t st h f e = λ brief sight faults sink.
         ms = [];
         fault = None;
         brought = Told-as (λ p q k. k.came) sight sight (exchanges_still sight);
-        given = Told-as (λ p q k. ([], said host [], refl, k.gave)) sight sight (exchanges_still sight);
+        given = Told-as (λ p q k. ([], client_talk host [], refl, k.gave)) sight sight (exchanges_still sight);
         unended = Told-as (λ p q k. k.unended) sight sight (exchanges_still sight);
         hears = hears;
         holds = λ connections k. subst (λ (x : Option Rebuilt). Holds (connections ++ [] ∷ []) x) (sym held) (holds_more None connections r.held [] [] None k hears);
@@ -402,11 +402,11 @@ room_kept size len new items i n l = omega (arith, i, n, l, length-take len (new
 
 -- one call behind another
 
-pub takes_then : (brief : Bool) (a b c : Scene) (result : Result Taken FollowFault) → GoesOn brief a b (Ok tt) → TakesOn brief b c result → TakesOn brief a c result
+pub takes_then : (brief : Bool) (a b c : Scene) (result : Result Taken FollowFault) → GoesOnOrStops brief a b (Ok tt) → TakesOn brief b c result → TakesOn brief a c result
 takes_then brief a b c result p q = λ host old g. q host old (p host old g).ok
 
 -- an end is the same end of another answer
-pub stops_first : (brief : Bool) (a b : Scene) (e : FollowFault) → GoesOn brief a b (Err e) → TakesOn brief a b (Err e)
+pub stops_first : (brief : Bool) (a b : Scene) (e : FollowFault) → GoesOnOrStops brief a b (Err e) → TakesOn brief a b (Err e)
 stops_first brief a b e p = λ host old g.
     let k = p host old g in
     record { ok = tt; stopped = k.stopped; link_later = k.link_later; sink_later = k.sink_later }

@@ -30,8 +30,8 @@ abbrev pub scene : RebuildHeld → Option Sight → ℕ → Output → Scene
 scene rebuild sight faults sink = record { rebuild = rebuild; sight = sight; faults = faults; sink = sink }
 
 -- what a client says: its hello, and a pong for each ping of these messages
-abbrev pub said : List ℕ → List Msg → List ℕ
-said host ms = frames (ClientHello 1 host ∷ pongs ms)
+abbrev pub client_talk : List ℕ → List Msg → List ℕ
+client_talk host ms = frames (ClientHello 1 host ∷ pongs ms)
 
 -- From what a link told before a call to what it tells afterwards
 
@@ -47,12 +47,12 @@ abbrev pub IsGivenFront : List ℕ → Sight → Sight → Type 0
 IsGivenFront bytes x y = (front : List ℕ) × (rest : List ℕ) × (bytes ≡ front ++ rest) × IsGivenAll front x y
 
 -- its end was taken, behind which nothing comes
-abbrev pub IsEnded : Sight → Sight → Type 0
-IsEnded x y = (y.ended ≡ true) × IsOver y.coming
+abbrev pub EndIsTaken : Sight → Sight → Type 0
+EndIsTaken x y = (y.ended ≡ true) × IsOver y.coming
 
 -- its end wasn't taken
-abbrev pub IsUnended : Sight → Sight → Type 0
-IsUnended x y = y.ended ≡ x.ended
+abbrev pub EndIsAsBefore : Sight → Sight → Type 0
+EndIsAsBefore x y = y.ended ≡ x.ended
 
 -- the link brought bytes, they have these good messages and this fault, the rebuilding stands for
 -- its connections before and for this one, the first bytes of what a client says to these messages
@@ -61,7 +61,7 @@ pub record Linked (host : List ℕ) (brief : Bool) (old new : Scene) (fault : Op
   pub bytes : List ℕ
   pub ms : List Msg
   pub brought : Told (IsBrought bytes) old.sight new.sight
-  pub given : Told (IsGivenFront (said host ms)) old.sight new.sight
+  pub given : Told (IsGivenFront (client_talk host ms)) old.sight new.sight
   pub hears : Hears bytes ms fault
   pub stands : (connections : List (List ℕ)) → Holds connections old.rebuild.held → RebuildStands new.rebuild connections bytes ms
   pub written : Appends old.sink.held new.sink.held (rebuilt_text brief (ats ms))
@@ -74,8 +74,8 @@ pub record LinkedPart (host : List ℕ) (brief : Bool) (old new : Scene) : Type 
   pub ms : List Msg
   pub fault : Option StreamFault
   pub brought : Told (IsBrought (bytes ++ unheard)) old.sight new.sight
-  pub given : Told (IsGivenFront (said host ms)) old.sight new.sight
-  pub unended : Told IsUnended old.sight new.sight
+  pub given : Told (IsGivenFront (client_talk host ms)) old.sight new.sight
+  pub unended : Told EndIsAsBefore old.sight new.sight
   pub hears : Hears bytes ms fault
   pub holds : (connections : List (List ℕ)) → Holds connections old.rebuild.held → Holds (connections ++ bytes ∷ []) new.rebuild.held
   pub written : AppendsFront old.sink.held new.sink.held (rebuilt_text brief (ats ms))
@@ -83,15 +83,15 @@ pub record LinkedPart (host : List ℕ) (brief : Bool) (old new : Scene) : Type 
 -- the link's end was taken behind this rest of its bytes, and all that a client says was given
 pub record LinkEnded (host : List ℕ) (brief : Bool) (old new : Scene) (rest : List ℕ) : Type 0 where
   pub linked : Linked host brief old new None
-  pub ended : Told IsEnded old.sight new.sight
-  pub given_all : Told (IsGivenAll (said host linked.ms)) old.sight new.sight
+  pub ended : Told EndIsTaken old.sight new.sight
+  pub given_all : Told (IsGivenAll (client_talk host linked.ms)) old.sight new.sight
   pub reads : Reads linked.bytes linked.ms rest
 
 -- why it went no further
 abbrev pub LinkStopped : List ℕ → Bool → Scene → Scene → FollowFault → Type 0
-LinkStopped host brief old new (Stream f) = Linked host brief old new (Some f) × Told IsUnended old.sight new.sight
+LinkStopped host brief old new (Stream f) = Linked host brief old new (Some f) × Told EndIsAsBefore old.sight new.sight
 LinkStopped host brief old new (Cut left) = (rest : List ℕ) × LinkEnded host brief old new rest × (0 < left) × (left ≡ length rest)
 LinkStopped host brief old new Read = ⊥
 LinkStopped host brief old new Write = ((part : LinkedPart host brief old new) × (part.unheard ≡ [])) × Rose old.sink.faults new.sink.faults
-LinkStopped host brief old new Link = Linked host brief old new None × Told IsUnended old.sight new.sight × Rose old.faults new.faults
+LinkStopped host brief old new Link = Linked host brief old new None × Told EndIsAsBefore old.sight new.sight × Rose old.faults new.faults
 LinkStopped host brief old new NoMemory = LinkedPart host brief old new

@@ -7,7 +7,7 @@ ghost use Rattle.ty_wire.specs.Stream.{Reads};
 ghost use Rattle.ty_wire.specs.declared.message.Msg.{Msg as Message};
 ghost use Rattle.ty_client.specs.Rebuild.{ConnectionStands};
 ghost use Rattle.ty_client.specs.Linked.{scene, LinkEnded, LinkStopped};
-ghost use Rattle.ty_client.specs.steps.Links.{Exchanges, GoesOn, TakesOn, Begins, by_fault};
+ghost use Rattle.ty_client.specs.steps.Links.{ExchangesUnended, GoesOnOrStops, TakesOn, Begins, by_fault};
 ghost use Rattle.ty_client.specs.steps.Pieces.{EndsAt};
 
 use crate::fault::StreamFault;
@@ -104,7 +104,7 @@ fn exchange<L: Link, K: Sink>(
 
 // All that is queued, at most `PIECE_BYTES` at a time.
 fn give_queued<L: Link>(rebuild: &mut Rebuild, link: &mut L) -> Result<(), FollowFault>
-    ensures came { (brief : Bool) (sink : Output) → GoesOn brief
+    ensures came { (brief : Bool) (sink : Output) → GoesOnOrStops brief
         (scene rebuild.old (L.sight link.old) (L.count link.old) sink)
         (scene rebuild.new (L.sight link.new) (L.count link.new) sink) result }
     ensures all { OnOk result (rebuild.new.up ≡ []) }
@@ -121,7 +121,7 @@ fn give_queued<L: Link>(rebuild: &mut Rebuild, link: &mut L) -> Result<(), Follo
 // One give of the first of them.
 fn give_piece<L: Link>(rebuild: &mut Rebuild, link: &mut L) -> Result<(), FollowFault>
     requires { 0 < length rebuild.old.up }
-    ensures came { (brief : Bool) (sink : Output) → GoesOn brief
+    ensures came { (brief : Bool) (sink : Output) → GoesOnOrStops brief
         (scene rebuild.old (L.sight link.old) (L.count link.old) sink)
         (scene rebuild.new (L.sight link.new) (L.count link.new) sink) result }
     ensures shorter { OnOk result (length rebuild.new.up < length rebuild.old.up) }
@@ -174,7 +174,7 @@ fn hear<K: Sink>(
     bytes: &[u8],
     sink: &mut K,
 ) -> Result<(), FollowFault>
-    ensures { (x y : Option Sight) (n m : ℕ) → Told (Exchanges [] bytes.now) x y → n ≤ m → GoesOn brief
+    ensures { (x y : Option Sight) (n m : ℕ) → Told (ExchangesUnended [] bytes.now) x y → n ≤ m → GoesOnOrStops brief
         (scene rebuild.old x n (K.seen sink.old)) (scene rebuild.new y m (K.seen sink.new)) result }
 {
     let Ok(heard) = rebuild.feed(alloc, bytes) else {

@@ -17,7 +17,7 @@ use Rattle.ty_core.specs.Report.{report}
 use Rattle.ty_core.specs.Text.{report_text}
 use Rattle.ty_core.specs.Held.{WorldHeld, RanStands, WorldStands}
 use Rattle.ty_core.specs.Script.{unfinished_line_fault, too_much_fault, happenings_of, ending_of, script_fault, simulated}
-use Rattle.ty_core.specs.steps.Scripts.{happenings_in, report_in, first_fault_in, AreRun, StandsForPart, IsLineRun, all_lines, followed, cut_fault, IsScriptAt, IsScriptRunTo, IsOpen, still, finished_feed, all_happenings, IsRun, IsTold, Settles}
+use Rattle.ty_core.specs.steps.Scripts.{happenings_in, report_in, first_fault_in, AreRun, StandsForPart, IsLineRun, all_lines, followed, cut_fault, IsScriptAt, IsScriptRunTo, IsScriptOpen, still, finished_feed, all_happenings, IsRun, IsTold, Settles}
 use Rattle.ty_core.specs.declared.script.Script.{Script}
 use Rattle.ty_core.specs.declared.simulation.SimFault.{SimFault}
 use Rattle.ty_core.specs.declared.simulation.SimFault.TheVariants.{LongLine, TooMuch}
@@ -112,7 +112,7 @@ pub record GoesOn (w : WorldHeld) (owed : List ℕ) (a b : Option (List ℕ)) (r
   pub stands_all : WorldStands w (all_happenings read)
   pub owes : Owes a b owed (simulated read)
 
-pub open_run : (w : WorldHeld) (script : Script) (a b : Option (List ℕ)) (bytes : List ℕ) → IsOpen w script a b bytes → GoesOn w script.owed.items a b (still bytes)
+pub open_run : (w : WorldHeld) (script : Script) (a b : Option (List ℕ)) (bytes : List ℕ) → IsScriptOpen w script a b bytes → GoesOn w script.owed.items a b (still bytes)
 open_run w script a b bytes o =
     let f : IsFront bytes [] = all_front bytes o.few in
     let e : bytes ++ [] ≡ bytes = append-nil bytes in
@@ -128,7 +128,7 @@ open_run w script a b bytes o =
       owes = owes_same a b script.owed.items (report_in (cut_lines bytes).lines) (simulated (still bytes)) (sym (ap (λ (l : List ℕ). simulated (still l)) (sym e) ∙ still_text bytes [] f)) o.at.owes;
     }
 
-pub run_open : (w : WorldHeld) (script : Script) (start : Option (List ℕ)) (x y : Output) (bytes : List ℕ) → IsOpen w script start y.held bytes → IsRun (Ok tt) w script.owed.items start x y (still bytes)
+pub run_open : (w : WorldHeld) (script : Script) (start : Option (List ℕ)) (x y : Output) (bytes : List ℕ) → IsScriptOpen w script start y.held bytes → IsRun (Ok tt) w script.owed.items start x y (still bytes)
 run_open w script start x y bytes o =
     let g = open_run w script start y.held bytes o in
     (g.good, g.stands_all, g.owes)
@@ -243,11 +243,11 @@ some_bytes zero h = absurd (true≢false h)
 some_bytes (suc n) h = omega arith
 
 -- an unfinished line that isn't empty is one more
-pub last_few : (w : WorldHeld) (script : Script) (a b : Option (List ℕ)) (bytes : List ℕ) → IsOpen w script a b bytes → (vec_len script.rest == 0) ≡ false → script.lines + 1 < INPUT_BYTES
+pub last_few : (w : WorldHeld) (script : Script) (a b : Option (List ℕ)) (bytes : List ℕ) → IsScriptOpen w script a b bytes → (vec_len script.rest == 0) ≡ false → script.lines + 1 < INPUT_BYTES
 last_few w script a b bytes o h =
     omega (arith, some_bytes (vec_len script.rest) h, script.rest.ok.0, ap length o.at.rest, o.at.count, cut-length bytes, o.few)
 
-pub lines_few : (w : WorldHeld) (script : Script) (a b : Option (List ℕ)) (bytes : List ℕ) → IsOpen w script a b bytes → script.lines ≤ script.seen
+pub lines_few : (w : WorldHeld) (script : Script) (a b : Option (List ℕ)) (bytes : List ℕ) → IsScriptOpen w script a b bytes → script.lines ≤ script.seen
 lines_few w script a b bytes o = omega (arith, o.at.count, cut-length bytes, o.seen)
 
 -- ---- one piece more, of which a front is within the limit
@@ -284,7 +284,7 @@ module _ (w : WorldHeld) (script : Script) (start : Option (List ℕ)) (x y : Ou
   empty_of [] e = refl
   empty_of (z ∷ l) e = absurd (omega arith)
 
-  pub piece_open : IsFront (bytes ++ front) back → length back ≡ 0 → script.seen ≡ length bytes + length front → IsScriptAt w script start y.held (followed (cut_lines bytes) (cut_lines front)) → IsOpen w script start y.held (bytes ++ piece)
+  pub piece_open : IsFront (bytes ++ front) back → length back ≡ 0 → script.seen ≡ length bytes + length front → IsScriptAt w script start y.held (followed (cut_lines bytes) (cut_lines front)) → IsScriptOpen w script start y.held (bytes ++ piece)
   piece_open f none seen at =
       let same : bytes ++ piece ≡ bytes ++ front = ap (λ (l : List ℕ). bytes ++ l) (parts ∙ ap (λ (l : List ℕ). front ++ l) (empty_of back none) ∙ append-nil front) in
       record {
@@ -296,8 +296,8 @@ module _ (w : WorldHeld) (script : Script) (start : Option (List ℕ)) (x y : Ou
 -- it goes on behind what was given
 pub settled_on : (was result : Result (Unit {0}) Stop) (w0 w : WorldHeld) (before script script' : Script) (x y z : Output) (piece : List ℕ) → script'.rest.items ≡ script.rest.items → script'.lines ≡ script.lines → script'.seen ≡ script.seen
     → OnOk result (script'.owed.items ≡ []) → Settles was result script.owed.items y z
-    → OnOk was ((bytes : List ℕ) (start : Option (List ℕ)) → IsOpen w0 before start x.held bytes → IsOpen w script start y.held (bytes ++ piece))
-    → OnOk result ((bytes : List ℕ) (start : Option (List ℕ)) → IsOpen w0 before start x.held bytes → IsOpen w script' start z.held (bytes ++ piece))
+    → OnOk was ((bytes : List ℕ) (start : Option (List ℕ)) → IsScriptOpen w0 before start x.held bytes → IsScriptOpen w script start y.held (bytes ++ piece))
+    → OnOk result ((bytes : List ℕ) (start : Option (List ℕ)) → IsScriptOpen w0 before start x.held bytes → IsScriptOpen w script' start z.held (bytes ++ piece))
 settled_on was (Err e) w0 w before script script' x y z piece rest lines seen none s more = tt
 settled_on (Ok u) (Ok v) w0 w before script script' x y z piece rest lines seen none s more = λ bytes start o.
     let p = more bytes start o in

@@ -21,7 +21,7 @@ use Rattle.ty_core.specs.Report.{report_from}
 use Rattle.ty_core.specs.Held.{WorldHeld, WorldStands}
 use Rattle.ty_core.specs.Script.{event_said, told_at_line, events_of, ran_by, script_line_fault, lines_fault, unfinished_line_fault, too_much_fault, happenings_of, ending_of, script_fault, simulated}
 use Rattle.ty_core.specs.Simulated.{Taken, Simulated, Faulty, SimStopped}
-use Rattle.ty_core.specs.steps.Scripts.{fault_at_stop, report_in, AreRun, IsScriptAt, IsOpen, IsTold, still, finished_feed}
+use Rattle.ty_core.specs.steps.Scripts.{fault_at_stop, report_in, AreRun, IsScriptAt, IsScriptOpen, IsTold, still, finished_feed}
 use Rattle.ty_core.specs.declared.script.Script.{Script}
 use Rattle.ty_core.specs.declared.simulation.SimFault.{SimFault}
 use Rattle.ty_core.specs.declared.simulation.SimFault.TheVariants.{Event as NotEvent, Feed as FeedFault, LongLine, TooMuch, Read, Write, NoMemory}
@@ -93,7 +93,7 @@ found_at read f e = subst AreFound e (script_found read)
 pub record Running (world : WorldHeld) (script : Script) (old now : Seen) : Type 0 where
   pub bytes : List ℕ
   pub consumed : Consumes old.source.left now.source.left bytes
-  pub open_to : IsOpen world script old.sink.held now.sink.held bytes
+  pub open_to : IsScriptOpen world script old.sink.held now.sink.held bytes
   pub settled : script.owed.items ≡ []
 
 none_run : (world : WorldHeld) → WorldStands world [] → AreRun world []
@@ -123,7 +123,7 @@ running_begins world script old c s rest count seen owed = record {
 }
 
 pub running_more : (world world' : WorldHeld) (script script' : Script) (old now new : Seen) (piece : List ℕ) (r : Running world script old now) → Consumes now.source.left new.source.left piece
-    → IsOpen world' script' old.sink.held new.sink.held (r.bytes ++ piece) → script'.owed.items ≡ [] → Running world' script' old new
+    → IsScriptOpen world' script' old.sink.held new.sink.held (r.bytes ++ piece) → script'.owed.items ≡ [] → Running world' script' old new
 running_more world world' script script' old now new piece r c o e = record {
   bytes = r.bytes ++ piece;
   consumed = Consumes-then old.source.left now.source.left new.source.left r.bytes piece r.consumed c;
@@ -136,7 +136,7 @@ running_short world script old now r = omega (arith, r.open_to.seen, r.open_to.f
 
 -- a piece that isn't empty leaves fewer bytes to come
 pub running_nearer : (world world' : WorldHeld) (script script' : Script) (old now : Seen) (held : Option (List ℕ)) (piece : List ℕ) (n : ℕ) (r : Running world script old now) → length piece ≡ n → 0 < n
-    → IsOpen world' script' old.sink.held held (r.bytes ++ piece) → INPUT_BYTES - script'.seen < INPUT_BYTES - script.seen
+    → IsScriptOpen world' script' old.sink.held held (r.bytes ++ piece) → INPUT_BYTES - script'.seen < INPUT_BYTES - script.seen
 running_nearer world world' script script' old now held piece n r count some o =
     omega (arith, count, some, r.open_to.seen, r.open_to.few, o.seen, length-append r.bytes piece)
 

@@ -4,7 +4,7 @@ ghost use Rattle.ty_base.specs.Devices.{Output};
 ghost use Rattle.ty_base.specs.declared.limits.TheConstants.{INPUT_BYTES};
 ghost use Rattle.ty_intake.specs.Lines.{Cut, cut_lines};
 ghost use Rattle.ty_intake.specs.steps.Progress.{line_then, only};
-ghost use Rattle.ty_core.specs.steps.Scripts.{IsScriptAt, IsLineKept, IsLineRun, IsOpen, IsScriptRunTo, IsRun, IsTold, Settles, all_lines, followed, line_ended, still, finished_feed};
+ghost use Rattle.ty_core.specs.steps.Scripts.{IsScriptAt, IsLineKept, IsLineRun, IsScriptOpen, IsScriptRunTo, IsRun, IsTold, Settles, all_lines, followed, line_ended, still, finished_feed};
 
 use crate::fault::WorldFault;
 use crate::line::{push, run_line};
@@ -49,12 +49,12 @@ pub(crate) fn run_piece<K: Sink>(
     piece: &[u8],
     sink: &mut K,
 ) -> Result<(), Stop>
-    requires { (bytes : List ℕ) × (start : Option (List ℕ)) × IsOpen world.old script.old start (K.seen sink.old).held bytes }
-    ensures told { (bytes : List ℕ) (start : Option (List ℕ)) → IsOpen world.old script.old start (K.seen sink.old).held bytes
+    requires { (bytes : List ℕ) × (start : Option (List ℕ)) × IsScriptOpen world.old script.old start (K.seen sink.old).held bytes }
+    ensures told { (bytes : List ℕ) (start : Option (List ℕ)) → IsScriptOpen world.old script.old start (K.seen sink.old).held bytes
         → IsTold result world.new start (K.seen sink.old) (K.seen sink.new) (still (bytes ++ piece.now)) }
     ensures goes_on { OnOk result ((bytes : List ℕ) (start : Option (List ℕ))
-        → IsOpen world.old script.old start (K.seen sink.old).held bytes
-        → IsOpen world.new script.new start (K.seen sink.new).held (bytes ++ piece.now)) }
+        → IsScriptOpen world.old script.old start (K.seen sink.old).held bytes
+        → IsScriptOpen world.new script.new start (K.seen sink.new).held (bytes ++ piece.now)) }
     ensures settled { OnOk result (script.new.owed.items ≡ []) }
     ensures later { (K.seen sink.old).faults ≤ (K.seen sink.new).faults }
 {
@@ -69,8 +69,8 @@ pub(crate) fn end_script<K: Sink>(
     script: &mut Script,
     sink: &mut K,
 ) -> Result<(), Stop>
-    requires { (bytes : List ℕ) × (start : Option (List ℕ)) × IsOpen world.old script.old start (K.seen sink.old).held bytes }
-    ensures told { (bytes : List ℕ) (start : Option (List ℕ)) → IsOpen world.old script.old start (K.seen sink.old).held bytes
+    requires { (bytes : List ℕ) × (start : Option (List ℕ)) × IsScriptOpen world.old script.old start (K.seen sink.old).held bytes }
+    ensures told { (bytes : List ℕ) (start : Option (List ℕ)) → IsScriptOpen world.old script.old start (K.seen sink.old).held bytes
         → IsTold result world.new start (K.seen sink.old) (K.seen sink.new) (finished_feed bytes) }
     ensures later { (K.seen sink.old).faults ≤ (K.seen sink.new).faults }
 {
@@ -86,12 +86,12 @@ fn run_within_limit<K: Sink>(
     piece: &[u8],
     sink: &mut K,
 ) -> Result<(), Stop>
-    requires { (bytes : List ℕ) × (start : Option (List ℕ)) × IsOpen world.old script.old start (K.seen sink.old).held bytes }
-    ensures run { (bytes : List ℕ) (start : Option (List ℕ)) → IsOpen world.old script.old start (K.seen sink.old).held bytes
+    requires { (bytes : List ℕ) × (start : Option (List ℕ)) × IsScriptOpen world.old script.old start (K.seen sink.old).held bytes }
+    ensures run { (bytes : List ℕ) (start : Option (List ℕ)) → IsScriptOpen world.old script.old start (K.seen sink.old).held bytes
         → IsRun result world.new script.new.owed.items start (K.seen sink.old) (K.seen sink.new) (still (bytes ++ piece.now)) }
     ensures goes_on { OnOk result ((bytes : List ℕ) (start : Option (List ℕ))
-        → IsOpen world.old script.old start (K.seen sink.old).held bytes
-        → IsOpen world.new script.new start (K.seen sink.new).held (bytes ++ piece.now)) }
+        → IsScriptOpen world.old script.old start (K.seen sink.old).held bytes
+        → IsScriptOpen world.new script.new start (K.seen sink.new).held (bytes ++ piece.now)) }
     ensures later { (K.seen sink.old).faults ≤ (K.seen sink.new).faults }
 {
     let room = INPUT_BYTES - 1 - script.seen;
@@ -221,8 +221,8 @@ fn give<K: Sink>(owed: &mut Vec<u8>, sink: &mut K) -> Result<(), Stop>
 
 // Runs the unfinished line, if there is one, and ends the feed.
 fn finish(alloc: Global, world: &mut World, script: &mut Script) -> Result<(), Stop>
-    requires { (bytes : List ℕ) × (start held : Option (List ℕ)) × IsOpen world.old script.old start held bytes }
-    ensures { (bytes : List ℕ) (start : Option (List ℕ)) (sink : Output) → IsOpen world.old script.old start sink.held bytes
+    requires { (bytes : List ℕ) × (start held : Option (List ℕ)) × IsScriptOpen world.old script.old start held bytes }
+    ensures { (bytes : List ℕ) (start : Option (List ℕ)) (sink : Output) → IsScriptOpen world.old script.old start sink.held bytes
         → IsRun result world.new script.new.owed.items start sink sink (finished_feed bytes) }
 {
     run_last(alloc, world, script)?;
@@ -235,8 +235,8 @@ fn finish(alloc: Global, world: &mut World, script: &mut Script) -> Result<(), S
 
 // Runs the unfinished line, if there is one.
 fn run_last(alloc: Global, world: &mut World, script: &mut Script) -> Result<(), Stop>
-    requires { (bytes : List ℕ) × (start held : Option (List ℕ)) × IsOpen world.old script.old start held bytes }
-    ensures { (bytes : List ℕ) (start held : Option (List ℕ)) → IsOpen world.old script.old start held bytes
+    requires { (bytes : List ℕ) × (start held : Option (List ℕ)) × IsScriptOpen world.old script.old start held bytes }
+    ensures { (bytes : List ℕ) (start held : Option (List ℕ)) → IsScriptOpen world.old script.old start held bytes
         → IsLineRun result world.new start held script.new.owed.items (all_lines (cut_lines bytes)) }
 {
     if script.rest.is_empty() {

@@ -17,7 +17,7 @@ use Rattle.ty_map.specs.Shape.{Shape, pairs, height}
 use Rattle.ty_dedupe.specs.Pending.{pending}
 use Rattle.ty_dedupe.proofs.Pending.{Distinct, distinct_firsts}
 use Rattle.ty_crumb.specs.Crumbs.{most_fresh}
-use Rattle.ty_crumb.specs.steps.Applied.{Pending, AreApart, told_of, Applied}
+use Rattle.ty_crumb.specs.steps.Applied.{Pending, AreApart, changes_of, Applied}
 use Rattle.ty_crumb.specs.steps.Deltas.{updated, deleted, delta_of}
 use Rattle.ty_crumb.proofs.Spent.{spent_start, spent_more, spent_end}
 
@@ -86,12 +86,12 @@ turned k q h =
       | false ↦ λ p. refl
     ] refl
 
-told_kept : (m n : Pairs) (k : List ℕ) (v : Option (List ℕ)) (ps : Pending) → n ≡ put_value m k v → list_any (bytes_eq k) (map (λ q. q.0) ps) ≡ false → told_of n ps ≡ told_of m ps
+told_kept : (m n : Pairs) (k : List ℕ) (v : Option (List ℕ)) (ps : Pending) → n ≡ put_value m k v → list_any (bytes_eq k) (map (λ q. q.0) ps) ≡ false → changes_of n ps ≡ changes_of m ps
 told_kept m n k v [] e h = refl
 told_kept m n k v (q ∷ ps) e h =
     let s = or_both (bytes_eq k q.0) (list_any (bytes_eq k) (map (λ x. x.0) ps)) h in
     let here : get n q.0 ≡ get m q.0 = ap (λ x. get x q.0) e ∙ get-put_value m k v q.0 ∙ ap (λ b. cond b v (get m q.0)) (turned k q.0 s.0) in
-    ap (λ o. cons_option (change q.0 o q.1) (told_of n ps)) here ∙ ap (λ xs. cons_option (change q.0 (get m q.0) q.1) xs) (told_kept m n k v ps e s.1)
+    ap (λ o. cons_option (change q.0 o q.1) (changes_of n ps)) here ∙ ap (λ xs. cons_option (change q.0 (get m q.0) q.1) xs) (told_kept m n k v ps e s.1)
 
 -- The loop
 
@@ -115,11 +115,11 @@ applied_more old now next all before rest p ds more d done is told e same ascend
     let quiet : change p.0 (get (pairs now) p.0) p.1 ≡ None → pairs next ≡ pairs now = λ n. ap pairs (at_none {A = next ≡ now} d (told ∙ n) same) in
     record {
       told =
-          ap (λ z. z ++ told_of (pairs next) rest) push
-          ∙ append_assoc ds (cons_option d []) (told_of (pairs next) rest)
-          ∙ ap (λ z. ds ++ z) (front d (told_of (pairs next) rest))
+          ap (λ z. z ++ changes_of (pairs next) rest) push
+          ∙ append_assoc ds (cons_option d []) (changes_of (pairs next) rest)
+          ∙ ap (λ z. ds ++ z) (front d (changes_of (pairs next) rest))
           ∙ ap (λ z. ds ++ cons_option d z) (told_kept (pairs now) (pairs next) p.0 p.1 rest e h.apart.0)
-          ∙ ap (λ o. ds ++ cons_option o (told_of (pairs now) rest)) told
+          ∙ ap (λ o. ds ++ cons_option o (changes_of (pairs now) rest)) told
           ∙ h.told;
       led =
           leads (pairs now) (pairs next) p.0 (get (pairs now) p.0) p.1 e quiet
@@ -132,8 +132,8 @@ applied_more old now next all before rest p ds more d done is told e same ascend
       spent = spent_more old now next (length all) (length (p ∷ rest)) (length rest) p.0 p.1 (omega arith) h.spent ascending low e few;
     }
 
-pub all_told : (old now : Shape) (all rest : Pending) (ds : List Delta) → Applied old all now ds rest → rest ≡ [] → ds ≡ told_of (pairs old) all
-all_told old now all rest ds done end = sym (append-nil ds) ∙ ap (λ z. ds ++ told_of (pairs now) z) (sym end) ∙ done.told
+pub all_told : (old now : Shape) (all rest : Pending) (ds : List Delta) → Applied old all now ds rest → rest ≡ [] → ds ≡ changes_of (pairs old) all
+all_told old now all rest ds done end = sym (append-nil ds) ∙ ap (λ z. ds ++ changes_of (pairs now) z) (sym end) ∙ done.told
 
 pub few_made : (old now : Shape) (all rest : Pending) (ds : List Delta) → Applied old all now ds rest → fresh old now ≤ most_fresh (length (pairs old)) (length all)
 few_made old now all rest ds done = spent_end old now (length all) (length rest) done.spent

@@ -13,10 +13,10 @@ use Rattle.ty_base.specs.Told.{Told}
 use Rattle.ty_base.specs.declared.door.Came.TheVariants as came
 use Rattle.ty_base.proofs.Known.{Appends-then, Appends-same}
 use Rattle.ty_base.proofs.Telling.{Told-then, Told-as, Told-still}
-use Rattle.ty_client.specs.Linked.{IsEnded}
+use Rattle.ty_client.specs.Linked.{EndIsTaken}
 use Rattle.ty_dial.specs.declared.fault.DialFault.{DialFault}
 use Rattle.ty_dial.specs.declared.fault.DialFault.TheVariants.{Stream, Cut, Write, Link, Door, NoMemory}
-use Rattle.ty_dial.specs.Dialled.{Answer, Turn, IsTurn, Answers, is_lost, last_answer, turn_text, turns_text, WritesFront, Writes, Each, Shows, Followed, WasFollowed, WasLost, CameBack, Dialler, IsOver, IsUp, IsStop, Why, Dialled}
+use Rattle.ty_dial.specs.Dialled.{Answer, Turn, IsTurn, Answers, is_lost, last_answer, turn_text, turns_text, WritesFront, Writes, Each, AnswerShows, LinkFollowed, WasFollowed, WasLost, CameBack, Dialler, IsUsedUp, IsUp, IsStop, Why, Dialled}
 use Rattle.ty_dial.specs.steps.Turns.{RoseAt, TurnWrites, HadTurn, TurnBack, DialsOne, DialsNone, LostSoFar, LostWith}
 
 -- ---- lists
@@ -37,7 +37,7 @@ all_push P (y ∷ ys) x h p = (h.0, all_push P ys x h.1 p)
 
 -- ---- answers
 
-lost_by : (a : Answer) (x y : Option Sight) (n m : ℕ) → is_lost a ≡ true → Shows a x y n m → Rose n m ⊎ Told IsEnded x y
+lost_by : (a : Answer) (x y : Option Sight) (n m : ℕ) → is_lost a ≡ true → AnswerShows a x y n m → Rose n m ⊎ Told EndIsTaken x y
 lost_by (Ok u) x y n m l s = inr s
 lost_by (Err (Cut left)) x y n m l s = inr s
 lost_by (Err Link) x y n m l s = inl s
@@ -164,14 +164,14 @@ module _ {L : Type 0} (sight : L → Option Sight) (count : L → ℕ) (host : L
   -- ---- dialling
 
   -- the link that was accepted came back
-  turn_back : (t : Turn) (first back : L) → Followed host t (sight first) (sight back) (count first) (count back)
+  turn_back : (t : Turn) (first back : L) → LinkFollowed host t (sight first) (sight back) (count first) (count back)
       → (x y z : DoorSight L) → Accepts (Ok (came.Link first)) x y → TakesBack back y z → TurnBack sight count host brief t x z
   turn_back t first back h x y z a k =
       let same : first ≡ k.0 = ap (λ (o : Option L). unwrap_or o first) (sym (ap (λ (d : DoorSight L). d.lent) a) ∙ k.1) in
       record {
         link = (k.0, back);
         backs = ap (λ (d : DoorSight L). d.backs) k.2 ∙ ap (λ (d : DoorSight L). d.backs ++ (k.0, back) ∷ []) a;
-        followed = subst (λ (l : L). Followed host t (sight l) (sight back) (count l) (count back)) same h;
+        followed = subst (λ (l : L). LinkFollowed host t (sight l) (sight back) (count l) (count back)) same h;
       }
 
   pub dials_one : (answer : Answer) (first back : L) (old new : Dialler L) (mid : Option (DoorSight L)) → HadTurn host brief answer (sight first) (sight back) (count first) (count back) old.sink new.sink
@@ -252,7 +252,7 @@ module _ {L : Type 0} (sight : L → Option Sight) (count : L → ℕ) (host : L
 
   -- ---- how it ends
 
-  up : (tries n : ℕ) (a : Answer) (old new : Dialler L) (w : LostWith sight count host brief n a old new) → n ≤ tries → Told (IsOver tries w.turns) old.sight new.sight
+  up : (tries n : ℕ) (a : Answer) (old new : Dialler L) (w : LostWith sight count host brief n a old new) → n ≤ tries → Told (IsUsedUp tries w.turns) old.sight new.sight
       → Dialled sight count host brief tries old new a
   up tries n a old new w few over =
       let s = w.so_far in

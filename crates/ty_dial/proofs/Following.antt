@@ -8,7 +8,7 @@ use Rattle.ty_base.specs.Links.{Sight}
 use Rattle.ty_base.specs.Told.{Told}
 use Rattle.ty_base.proofs.Telling.{Told-as}
 use Rattle.ty_wire.specs.declared.message.Msg.{Msg}
-use Rattle.ty_client.specs.Linked.{Scene, said, IsBrought, IsGivenAll, IsEnded, IsUnended, Linked, LinkedPart, LinkEnded, LinkStopped}
+use Rattle.ty_client.specs.Linked.{Scene, client_talk, IsBrought, IsGivenAll, EndIsTaken, EndIsAsBefore, Linked, LinkedPart, LinkEnded, LinkStopped}
 use Rattle.ty_client.specs.Rebuilt.{ats}
 use Rattle.ty_client.specs.Text.{rebuilt_text}
 use Rattle.ty_client.specs.declared.fault.StreamFault.{StreamFault}
@@ -16,7 +16,7 @@ use Rattle.ty_client.specs.declared.follower.FollowFault.{FollowFault}
 use Rattle.ty_client.specs.declared.follower.FollowFault.TheVariants as follow
 use Rattle.ty_dial.specs.declared.fault.DialFault.{DialFault}
 use Rattle.ty_dial.specs.declared.fault.DialFault.TheVariants.{Stream, Cut, Write, Link, Door, NoMemory}
-use Rattle.ty_dial.specs.Dialled.{Answer, Turn, IsTurn, Shows, turn_text, turns_text, WritesFront, Followed, IsGivenAllAtEnd}
+use Rattle.ty_dial.specs.Dialled.{Answer, Turn, IsTurn, AnswerShows, turn_text, turns_text, WritesFront, LinkFollowed, IsGivenAllAtEnd}
 use Rattle.ty_dial.specs.steps.Turns.{HadTurn, TurnWrites, IsFaultOf}
 
 -- the text of one turn
@@ -26,7 +26,7 @@ one_text brief t = sym (append-nil (turn_text brief t))
 at_end : (bytes : List ℕ) (x y : Option Sight) → Told (IsGivenAll bytes) x y → Told (IsGivenAllAtEnd bytes) x y
 at_end bytes = Told-as (λ x y h before after. h)
 
-unended : (bytes : List ℕ) (x y : Option Sight) → Told IsUnended x y → Told (IsGivenAllAtEnd bytes) x y
+unended : (bytes : List ℕ) (x y : Option Sight) → Told EndIsAsBefore x y → Told (IsGivenAllAtEnd bytes) x y
 unended bytes = Told-as (λ x y u before after. absurd (true≢false (sym after ∙ u ∙ before)))
 
 -- the bytes of the link, heard as far as this one's turn goes
@@ -39,8 +39,8 @@ brought_all bytes x y h = subst (λ (l : List ℕ). Told (IsBrought l) x y) (sym
 module _ (host : List ℕ) (brief : Bool) (old new : Scene) where
   -- all was heard
   all_followed : (fault : Option StreamFault) (answer : Answer) (l : Linked host brief old new fault) → old.faults ≤ new.faults
-      → Told (IsGivenAllAtEnd (said host l.ms)) old.sight new.sight → Shows answer old.sight new.sight old.faults new.faults
-      → Followed host (turn_of l.bytes [] l.ms answer) old.sight new.sight old.faults new.faults
+      → Told (IsGivenAllAtEnd (client_talk host l.ms)) old.sight new.sight → AnswerShows answer old.sight new.sight old.faults new.faults
+      → LinkFollowed host (turn_of l.bytes [] l.ms answer) old.sight new.sight old.faults new.faults
   all_followed fault answer l later given_all shows = record {
     later = later;
     brought = brought_all l.bytes old.sight new.sight l.brought;
@@ -54,13 +54,13 @@ module _ (host : List ℕ) (brief : Bool) (old new : Scene) where
   all_written fault answer l =
       subst (Appends old.sink.held new.sink.held) (one_text brief (turn_of l.bytes [] l.ms answer)) l.written
 
-  part_followed : (answer : Answer) (p : LinkedPart host brief old new) → old.faults ≤ new.faults → Shows answer old.sight new.sight old.faults new.faults
-      → Followed host (turn_of p.bytes p.unheard p.ms answer) old.sight new.sight old.faults new.faults
+  part_followed : (answer : Answer) (p : LinkedPart host brief old new) → old.faults ≤ new.faults → AnswerShows answer old.sight new.sight old.faults new.faults
+      → LinkFollowed host (turn_of p.bytes p.unheard p.ms answer) old.sight new.sight old.faults new.faults
   part_followed answer p later shows = record {
     later = later;
     brought = p.brought;
     given = p.given;
-    given_all = unended (said host p.ms) old.sight new.sight p.unended;
+    given_all = unended (client_talk host p.ms) old.sight new.sight p.unended;
     shows = shows;
   }
 
@@ -80,7 +80,7 @@ module _ (host : List ℕ) (brief : Bool) (old new : Scene) where
     turn = turn_of e.linked.bytes [] e.linked.ms (Ok tt);
     same = refl;
     is_turn = ((e.linked.hears, refl), e.reads);
-    followed = all_followed None (Ok tt) e.linked later (at_end (said host e.linked.ms) old.sight new.sight e.given_all) e.ended;
+    followed = all_followed None (Ok tt) e.linked later (at_end (client_talk host e.linked.ms) old.sight new.sight e.given_all) e.ended;
     writes = record { writes = all_written None (Ok tt) e.linked; rose = tt; later = sink_later };
   }
 
@@ -90,7 +90,7 @@ module _ (host : List ℕ) (brief : Bool) (old new : Scene) where
     turn = turn_of h.0.bytes [] h.0.ms (Err (Stream f));
     same = refl;
     is_turn = (h.0.hears, refl);
-    followed = all_followed (Some f) (Err (Stream f)) h.0 later (unended (said host h.0.ms) old.sight new.sight h.1) tt;
+    followed = all_followed (Some f) (Err (Stream f)) h.0 later (unended (client_talk host h.0.ms) old.sight new.sight h.1) tt;
     writes = record { writes = all_written (Some f) (Err (Stream f)) h.0; rose = tt; later = sink_later };
   })
   had_stopped (follow.Cut left) d h is later sink_later =
@@ -99,7 +99,7 @@ module _ (host : List ℕ) (brief : Bool) (old new : Scene) where
         turn = turn_of e.linked.bytes [] e.linked.ms (Err (Cut left));
         same = refl;
         is_turn = (h.0, ((e.linked.hears, refl), e.reads), h.2, h.3);
-        followed = all_followed None (Err (Cut left)) e.linked later (at_end (said host e.linked.ms) old.sight new.sight e.given_all) e.ended;
+        followed = all_followed None (Err (Cut left)) e.linked later (at_end (client_talk host e.linked.ms) old.sight new.sight e.given_all) e.ended;
         writes = record { writes = all_written None (Err (Cut left)) e.linked; rose = tt; later = sink_later };
       })
   had_stopped follow.Read d h is later sink_later = absurd h
@@ -116,7 +116,7 @@ module _ (host : List ℕ) (brief : Bool) (old new : Scene) where
     turn = turn_of h.0.bytes [] h.0.ms (Err Link);
     same = refl;
     is_turn = (h.0.hears, refl);
-    followed = all_followed None (Err Link) h.0 later (unended (said host h.0.ms) old.sight new.sight h.1) h.2;
+    followed = all_followed None (Err Link) h.0 later (unended (client_talk host h.0.ms) old.sight new.sight h.1) h.2;
     writes = record { writes = all_written None (Err Link) h.0; rose = tt; later = sink_later };
   })
   had_stopped follow.NoMemory d h is later sink_later = subst (λ (e : DialFault). HadTurn host brief (Err e) old.sight new.sight old.faults new.faults old.sink new.sink) (sym is) (record {

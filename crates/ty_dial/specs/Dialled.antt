@@ -12,7 +12,7 @@ use Rattle.ty_wire.specs.Stream.{Reads}
 use Rattle.ty_wire.specs.declared.message.Msg.{Msg}
 use Rattle.ty_client.specs.declared.fault.StreamFault.{StreamFault}
 use Rattle.ty_client.specs.Heard.{Hears}
-use Rattle.ty_client.specs.Linked.{said, IsBrought, IsGivenAll, IsGivenFront, IsEnded}
+use Rattle.ty_client.specs.Linked.{client_talk, IsBrought, IsGivenAll, IsGivenFront, EndIsTaken}
 use Rattle.ty_client.specs.Rebuilt.{ats}
 use Rattle.ty_client.specs.Text.{rebuilt_text}
 use Rattle.ty_dial.specs.declared.fault.DialFault.{DialFault}
@@ -42,20 +42,20 @@ is_lost (Err Door) = false
 is_lost (Err NoMemory) = false
 
 -- the bytes have these good messages and this fault, and all that came was heard
-abbrev pub IsHeard : Turn → Option StreamFault → Type 0
-IsHeard t fault = Hears t.bytes t.ms fault × (t.unheard ≡ [])
+abbrev pub IsHeardWhole : Turn → Option StreamFault → Type 0
+IsHeardWhole t fault = Hears t.bytes t.ms fault × (t.unheard ≡ [])
 
 -- and they end behind this rest
 abbrev pub EndsBehind : Turn → List ℕ → Type 0
-EndsBehind t rest = IsHeard t None × Reads t.bytes t.ms rest
+EndsBehind t rest = IsHeardWhole t None × Reads t.bytes t.ms rest
 
 -- what a turn's bytes say of its answer
 abbrev pub Answers : Turn → Answer → Type 0
 Answers t (Ok u) = EndsBehind t []
 Answers t (Err (Cut left)) = (rest : List ℕ) × EndsBehind t rest × (0 < left) × (left ≡ length rest)
-Answers t (Err (Stream f)) = IsHeard t (Some f)
-Answers t (Err Write) = (fault : Option StreamFault) × IsHeard t fault
-Answers t (Err Link) = IsHeard t None
+Answers t (Err (Stream f)) = IsHeardWhole t (Some f)
+Answers t (Err Write) = (fault : Option StreamFault) × IsHeardWhole t fault
+Answers t (Err Link) = IsHeardWhole t None
 Answers t (Err Door) = ⊥
 Answers t (Err NoMemory) = (fault : Option StreamFault) × Hears t.bytes t.ms fault
 
@@ -106,31 +106,31 @@ abbrev pub IsGivenAllAtEnd : List ℕ → Sight → Sight → Type 0
 IsGivenAllAtEnd bytes x y = x.ended ≡ false → y.ended ≡ true → IsGivenAll bytes x y
 
 -- what a link told and how often it had failed say of an answer: its end was taken, or its count rose
-abbrev pub Shows : Answer → Option Sight → Option Sight → ℕ → ℕ → Type 0
-Shows (Ok u) x y before now = Told IsEnded x y
-Shows (Err (Cut left)) x y before now = Told IsEnded x y
-Shows (Err Link) x y before now = Rose before now
-Shows (Err (Stream f)) x y before now = ⊤
-Shows (Err Write) x y before now = ⊤
-Shows (Err Door) x y before now = ⊤
-Shows (Err NoMemory) x y before now = ⊤
+abbrev pub AnswerShows : Answer → Option Sight → Option Sight → ℕ → ℕ → Type 0
+AnswerShows (Ok u) x y before now = Told EndIsTaken x y
+AnswerShows (Err (Cut left)) x y before now = Told EndIsTaken x y
+AnswerShows (Err Link) x y before now = Rose before now
+AnswerShows (Err (Stream f)) x y before now = ⊤
+AnswerShows (Err Write) x y before now = ⊤
+AnswerShows (Err Door) x y before now = ⊤
+AnswerShows (Err NoMemory) x y before now = ⊤
 
 -- a link brought the bytes of a turn, was given the first bytes of what a client says to them, and all of it at its end
-pub record Followed (host : List ℕ) (t : Turn) (x y : Option Sight) (before now : ℕ) : Type 0 where
+pub record LinkFollowed (host : List ℕ) (t : Turn) (x y : Option Sight) (before now : ℕ) : Type 0 where
   pub later : before ≤ now
   pub brought : Told (IsBrought (t.bytes ++ t.unheard)) x y
-  pub given : Told (IsGivenFront (said host t.ms)) x y
-  pub given_all : Told (IsGivenAllAtEnd (said host t.ms)) x y
-  pub shows : Shows t.answer x y before now
+  pub given : Told (IsGivenFront (client_talk host t.ms)) x y
+  pub given_all : Told (IsGivenAllAtEnd (client_talk host t.ms)) x y
+  pub shows : AnswerShows t.answer x y before now
 
 module _ {L : Type 0} (sight : L → Option Sight) (count : L → ℕ) (host : List ℕ) where
   -- a link as the dialler gave it and as it came back
   abbrev pub WasFollowed : Turn → L × L → Type 0
-  WasFollowed t back = Followed host t (sight back.0) (sight back.1) (count back.0) (count back.1)
+  WasFollowed t back = LinkFollowed host t (sight back.0) (sight back.1) (count back.0) (count back.1)
 
   -- its count rose, or its end was taken
   abbrev pub WasLost : Turn → L × L → Type 0
-  WasLost t back = WasFollowed t back × (Rose (count back.0) (count back.1) ⊎ Told IsEnded (sight back.0) (sight back.1))
+  WasLost t back = WasFollowed t back × (Rose (count back.0) (count back.1) ⊎ Told EndIsTaken (sight back.0) (sight back.1))
 
   -- the links of these turns came back in between, each that was lost and then the last
   pub record CameBack (lost last : List Turn) (x y : DoorSight L) : Type 0 where
@@ -152,14 +152,14 @@ abbrev pub dialler : {L : Type 0} → Option (DoorSight L) → ℕ → ℕ → �
 dialler sight gave got faults sink = record { sight = sight; gave = gave; got = got; faults = faults; sink = sink }
 
 -- so many links came back as there are tries, or nothing more came to the dialler
-abbrev pub IsOver : {L : Type 0} → ℕ → List Turn → DoorSight L → DoorSight L → Type 0
-IsOver tries lost x y = (length lost ≡ tries) ⊎ (y.last ≡ Some (Ok came.End))
+abbrev pub IsUsedUp : {L : Type 0} → ℕ → List Turn → DoorSight L → DoorSight L → Type 0
+IsUsedUp tries lost x y = (length lost ≡ tries) ⊎ (y.last ≡ Some (Ok came.End))
 
 -- each link was lost, the answer is that of the last, and it is over
 pub record IsUp {L : Type 0} (tries : ℕ) (lost last : List Turn) (answer : Answer) (old new : Dialler L) : Type 0 where
   pub none : last ≡ []
   pub same : last_answer lost ≡ answer
-  pub over : Told (IsOver tries lost) old.sight new.sight
+  pub over : Told (IsUsedUp tries lost) old.sight new.sight
 
 -- one link more was followed, and this answer ended it
 abbrev pub IsStop : List Turn → Answer → Type 0

@@ -34,7 +34,7 @@ use Rattle.ty_server.specs.Turning.{HasFinished, StandsAt, Answered, Turns, IfId
 use Rattle.ty_server.specs.declared.answers.Turn.{Turn}
 use Rattle.ty_server.specs.declared.answers.Turn.TheVariants.{Sent, Idle, Over}
 use Rattle.ty_server.specs.steps.Parts.{PartStory, SomePart, SomePartIn, WorksIn, StaysAsIs, InTime, HasJoined, IsPhaseAfter, HasSaidAll, KeepsTalk}
-use Rattle.ty_server.specs.steps.Steps.{CameTo, Steps, StepTurned, StepAnswered, OnIdle, IsAnswer}
+use Rattle.ty_server.specs.steps.Steps.{StandsBesideFollower, Steps, StepTurned, StepAnswered, OnIdle, IsAnswer}
 use Rattle.ty_server.proofs.Following.{follows_self, follows_then, said_more, left_follows, left_over, short_runs}
 use Rattle.ty_server.proofs.Hellos.{joined_goes, in_joined}
 use Rattle.ty_server.proofs.Parts.{cause_then}
@@ -383,7 +383,7 @@ turns_on gives now a b c f g v u w r x moment at (sent, p) time q is = record {
       let one = p.story s st none in
       let t : Story = one.0 in
       let joined : t.stance.phase ≡ Joined = phase_joined s.stance.phase t.stance.phase phase one.1.later_phase in
-      let reached : CameTo now f t = record {
+      let reached : StandsBesideFollower now f t = record {
         has_joined = joined;
         begins = subst (λ (l : List Entry). IsPrefix l f.known.entries) (sym one.1.entries) begins;
         number = sym at.1 ∙ st.number ∙ sym (ap length one.1.entries);

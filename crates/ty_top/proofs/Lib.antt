@@ -6,7 +6,6 @@ pub mod Streams
 pub mod Grown
 pub mod Headline
 pub mod Published
-pub mod FeedGrows
 pub mod StreamReading
 pub mod Statuses
 pub mod FollowedStreams

@@ -36,7 +36,7 @@ use Rattle.ty_top.specs.declared.publisher.Stop.TheVariants.{Fault, Sink, Memory
 use Rattle.ty_top.specs.declared.publisher.Unwritten.{Unwritten}
 use Rattle.ty_top.specs.declared.publisher.Unwritten.TheVariants.{Sink as NoRoom, Memory as Short}
 use Rattle.ty_top.proofs.Grown.{all_more}
-use Rattle.ty_top.proofs.FeedGrows.{batches_grow}
+use Rattle.ty_feed.proofs.FeedGrows.{batches_grow}
 
 -- One piece, or the end
 

@@ -7,7 +7,7 @@ use Rattle.std.proofs.lemmas.List.{drop_all}
 use Rattle.serde_json.specs.View.{view, items_view}
 use Rattle.serde_json.specs.declared.value.Value.{Value}
 use Rattle.ty_wire.specs.steps.Tokens.{delta_data, deltas_data, data_of}
-use Rattle.ty_wire.specs.steps.Members.{delta_of, delta_with, deltas_of, cons_if, msg_of}
+use Rattle.ty_wire.specs.steps.Members.{delta_in, delta_with, deltas_of, cons_if, msg_of}
 use Rattle.ty_wire.specs.declared.message.Msg.{Msg}
 use Rattle.ty_wire.specs.declared.message.Msg.TheVariants.{ClientHello, ServerHello, Kvs, Status as StatusMsg, Crumb, Ping, Pong}
 use Rattle.ty_base.specs.declared.status.Status.TheVariants.{Wait, Resync, InSync}
@@ -17,7 +17,7 @@ use Rattle.ty_base.specs.declared.delta.Delta.{Delta}
 
 -- ---- a message's own data
 
-delta_by : (k : List ℕ) (kind : Kind) (v : Option (List ℕ)) (t : tells kind v ≡ true) → delta_of (delta_data (record { key = k; kind = kind; value = v; told = t })) ≡ Some (record { key = k; kind = kind; value = v; told = t })
+delta_by : (k : List ℕ) (kind : Kind) (v : Option (List ℕ)) (t : tells kind v ≡ true) → delta_in (delta_data (record { key = k; kind = kind; value = v; told = t })) ≡ Some (record { key = k; kind = kind; value = v; told = t })
 delta_by k New None t = absurd (true≢false (sym t))
 delta_by k New (Some v) t = ap (λ (p : true ≡ true). Some (record { key = k; kind = New; value = Some v; told = p })) (Bool-set true true refl t)
 delta_by k Updated None t = absurd (true≢false (sym t))
@@ -50,18 +50,18 @@ pub deltas-end : (vs : List Value) (i : ℕ) (xs : List Delta) (o : Option (List
 unfolding deltas_of
 deltas-end vs i xs o h e = sym (e ∙ ap (λ l. behind xs (deltas_of (items_view l))) (drop_all i vs h) ∙ ap Some (append-nil xs))
 
-at : (vs : List Value) (i : ℕ) (v : Value) → i < length vs → v ≡ get_or vs i v → deltas_of (items_view (drop i vs)) ≡ cons_if (delta_of (view v)) (deltas_of (items_view (drop (i + 1) vs)))
+at : (vs : List Value) (i : ℕ) (v : Value) → i < length vs → v ≡ get_or vs i v → deltas_of (items_view (drop i vs)) ≡ cons_if (delta_in (view v)) (deltas_of (items_view (drop (i + 1) vs)))
 unfolding deltas_of
 at vs i v h e = rw (drop-cons vs i v h, ← e, add-one) refl
 
-pub deltas-none : (vs : List Value) (i : ℕ) (v : Value) (xs : List Delta) (o : Option (List Delta)) → i < length vs → v ≡ get_or vs i v → None ≡ delta_of (view v) → o ≡ behind xs (deltas_of (items_view (drop i vs))) → None ≡ o
+pub deltas-none : (vs : List Value) (i : ℕ) (v : Value) (xs : List Delta) (o : Option (List Delta)) → i < length vs → v ≡ get_or vs i v → None ≡ delta_in (view v) → o ≡ behind xs (deltas_of (items_view (drop i vs))) → None ≡ o
 deltas-none vs i v xs o h e n l = sym (l ∙ ap (behind xs) (at vs i v h e ∙ ap (λ (d : Option Delta). cons_if d (deltas_of (items_view (drop (i + 1) vs)))) (sym n)))
 
 one-more : (xs : List Delta) (d : Delta) (o : Option (List Delta)) → behind xs (cons_if (Some d) o) ≡ behind (xs ++ d ∷ []) o
 one-more xs d None = refl
 one-more xs d (Some ds) = ap Some (sym (append_assoc xs (d ∷ []) ds))
 
-pub deltas-step : (vs : List Value) (i : ℕ) (v : Value) (d : Delta) (xs : List Delta) (o : Option (List Delta)) → i < length vs → v ≡ get_or vs i v → Some d ≡ delta_of (view v) → o ≡ behind xs (deltas_of (items_view (drop i vs))) → o ≡ behind (xs ++ d ∷ []) (deltas_of (items_view (drop (i + 1) vs)))
+pub deltas-step : (vs : List Value) (i : ℕ) (v : Value) (d : Delta) (xs : List Delta) (o : Option (List Delta)) → i < length vs → v ≡ get_or vs i v → Some d ≡ delta_in (view v) → o ≡ behind xs (deltas_of (items_view (drop i vs))) → o ≡ behind (xs ++ d ∷ []) (deltas_of (items_view (drop (i + 1) vs)))
 deltas-step vs i v d xs o h e n l = l ∙ ap (behind xs) (at vs i v h e ∙ ap (λ (d : Option Delta). cons_if d (deltas_of (items_view (drop (i + 1) vs)))) (sym n)) ∙ one-more xs d _
 
 -- ---- a delta that is made of its parts

@@ -7,7 +7,7 @@ use Rattle.ty_base.specs.declared.limits.TheConstants.{BODY_BYTES, MESSAGE_DELTA
 use Rattle.ty_base.specs.declared.delta.Kind.{Kind}
 use Rattle.ty_base.specs.declared.delta.Delta.{Delta}
 use Rattle.ty_wire.specs.Wire.{body, kind_text, value_text, delta_text, more_deltas, deltas_text, message_fits, Spells, DeltaHasUtf8}
-use Rattle.ty_wire.specs.steps.Spelled.{AreSmall, AreSpelled, ArePieces, IsWithValue, delta_piece}
+use Rattle.ty_wire.specs.steps.Spelled.{AreSendable, AreSpelled, ArePieces, IsWithValue, delta_piece}
 use Rattle.ty_wire.specs.declared.message.Msg.TheVariants.{Kvs}
 use Rattle.ty_wire.proofs.Parts.{delta_fits}
 use Rattle.ty_wire.proofs.Utf8.{one-more, is_wire}
@@ -15,7 +15,7 @@ use Rattle.ty_wire.proofs.Utf8.{one-more, is_wire}
 pub pieces-first : (bytes : List ℕ) → ArePieces bytes [] bytes
 pieces-first bytes = record { small = record { most = omega arith; limits = refl; utf8 = tt }; text = refl }
 
-small-more : (ds : List Delta) (d : Delta) → AreSmall ds → length ds < MESSAGE_DELTAS → delta_fits d ≡ true → DeltaHasUtf8 d → AreSmall (ds ++ d ∷ [])
+small-more : (ds : List Delta) (d : Delta) → AreSendable ds → length ds < MESSAGE_DELTAS → delta_fits d ≡ true → DeltaHasUtf8 d → AreSendable (ds ++ d ∷ [])
 small-more ds d a h f u = record {
   most = omega (arith, length-append ds (d ∷ []));
   limits = list_all-append delta_fits ds (d ∷ []) ∙ rw (a.limits, f) refl;

@@ -4,7 +4,7 @@ ghost use Rattle.std.specs.Str.{IsUtf8, bytes_eq};
 ghost use Rattle.serde_json.specs.Read.{read};
 ghost use Rattle.serde_json.specs.View.{view, items_view};
 ghost use Rattle.ty_wire.specs.Wire.{Spells, body, parts_fit as parts};
-ghost use Rattle.ty_wire.specs.steps.Members.{text_at as text_of, number_at as number_of, read_kind as kind_of, read_name as name_of, named, kind_at, small_of, hello_of, kvs_of, delta_of, delta_with, deltas_of, msg_by, msg_of};
+ghost use Rattle.ty_wire.specs.steps.Members.{text_at as text_of, number_at as number_of, read_kind as kind_of, read_name as name_of, named, kind_at, small_of, hello_of, kvs_of, delta_in, delta_with, deltas_of, msg_by, msg_of};
 ghost use Rattle.ty_wire.specs.steps.Bodies.{IsBody};
 
 use crate::decode_fast::spelled_kvs;
@@ -194,7 +194,7 @@ fn deltas_in(alloc: Global, values: &[Value]) -> Result<Option<Deltas>, NoMemory
 }
 
 fn delta_in(alloc: Global, value: &Value) -> Result<Option<Delta>, NoMemory>
-    ensures { IfOk result (λ o. o ≡ delta_of (view value.now)) }
+    ensures { IfOk result (λ o. o ≡ delta_in (view value.now)) }
 {
     match (text_at(value, "key"), kind_in(value)) {
         (Some(key), Some(kind)) => delta_from(alloc, key, kind, text_at(value, "value")),

@@ -114,7 +114,7 @@ IsScriptRunTo (Err Memory) world script start old new c = AppendsFront start new
 -- ---- a script
 
 -- so many bytes were read, and there are fewer than is too much
-pub record IsOpen (world : WorldHeld) (script : Script) (start held : Option (List ℕ)) (bytes : List ℕ) : Type 0 where
+pub record IsScriptOpen (world : WorldHeld) (script : Script) (start held : Option (List ℕ)) (bytes : List ℕ) : Type 0 where
   pub at : IsScriptAt world script start held (cut_lines bytes)
   pub seen : script.seen ≡ length bytes
   pub few : length bytes < INPUT_BYTES

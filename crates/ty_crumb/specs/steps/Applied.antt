@@ -16,12 +16,12 @@ AreApart [] = Unit {0}
 AreApart (p ∷ ps) = (list_any (bytes_eq p.0) (map (λ q. q.0) ps) ≡ false) × AreApart ps
 
 -- what pending keys change in a map
-abbrev pub told_of : Pairs → Pending → List Delta
-told_of m ps = filter_map (λ p. change p.0 (get m p.0) p.1) ps
+abbrev pub changes_of : Pairs → Pending → List Delta
+changes_of m ps = filter_map (λ p. change p.0 (get m p.0) p.1) ps
 
 -- of all pending keys those before the rest have their values, and what that changed is told
 pub record Applied (old : Shape) (all : Pending) (now : Shape) (ds : List Delta) (rest : Pending) : Type 0 where
-  pub told : ds ++ told_of (pairs now) rest ≡ told_of (pairs old) all
+  pub told : ds ++ changes_of (pairs now) rest ≡ changes_of (pairs old) all
   pub led : pairs now ≡ fold changed (pairs old) ds
   pub same : ds ≡ [] → now ≡ old
   pub apart : AreApart rest

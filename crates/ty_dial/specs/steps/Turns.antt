@@ -14,7 +14,7 @@ use Rattle.ty_dial.specs.declared.fault.DialFault.{DialFault}
 use Rattle.ty_dial.specs.declared.fault.DialFault.TheVariants.{Stream, Cut, Write, Link, Door, NoMemory}
 use Rattle.ty_dial.specs.declared.dial.Dial.{Dial}
 use Rattle.ty_dial.specs.declared.dial.Dial.TheVariants as dial
-use Rattle.ty_dial.specs.Dialled.{Answer, Turn, IsTurn, is_lost, last_answer, Writes, turns_text, Followed, WasFollowed, CameBack, Dialler, dialler}
+use Rattle.ty_dial.specs.Dialled.{Answer, Turn, IsTurn, is_lost, last_answer, Writes, turns_text, LinkFollowed, WasFollowed, CameBack, Dialler, dialler}
 
 -- a link's fault as one of the dialling
 abbrev pub IsFaultOf : FollowFault → DialFault → Type 0
@@ -46,7 +46,7 @@ pub record HadTurn (host : List ℕ) (brief : Bool) (answer : Answer) (x y : Opt
   pub turn : Turn
   pub same : turn.answer ≡ answer
   pub is_turn : IsTurn turn
-  pub followed : Followed host turn x y before now
+  pub followed : LinkFollowed host turn x y before now
   pub writes : TurnWrites brief turn old new
 
 module _ {L : Type 0} (sight : L → Option Sight) (count : L → ℕ) (host : List ℕ) (brief : Bool) where

@@ -19,7 +19,7 @@ use Rattle.ty_server.specs.declared.answers.Turn.{Turn}
 use Rattle.ty_server.specs.declared.answers.Turn.TheVariants.{Sent, Idle, Over}
 
 -- the client has joined the follower's breadcrumb, and was heard in time
-pub record CameTo (now : ℕ) (f : Shown) (s : Story) : Type 0 where
+pub record StandsBesideFollower (now : ℕ) (f : Shown) (s : Story) : Type 0 where
   pub has_joined : s.stance.phase ≡ Joined
   pub begins : IsPrefix s.entries f.known.entries
   pub number : f.crumb.number ≡ length s.entries
@@ -46,7 +46,7 @@ pub record Steps (now : ℕ) (a b : LinkSeen) (f g : Shown) (v w : SessionHeld) 
   pub heard : List ℕ
   pub exchanged : Exchanged sent heard a b
   pub knows_more : KnowsMore f.known g.known
-  pub turned : (s : Story) → SessionStands v s → CameTo now f s → StepTurned now sent heard a b f g v w result s
+  pub turned : (s : Story) → SessionStands v s → StandsBesideFollower now f s → StepTurned now sent heard a b f g v w result s
 
 -- the answer that there was no later breadcrumb comes only after a look
 abbrev pub OnIdle : Result Turn Gone → Type 0 → Type 0

@@ -57,8 +57,8 @@ abbrev pub delta_from : Option (List ℕ) → Option Kind → Option (List ℕ) 
 delta_from (Some k) (Some kind) v = delta_with k kind v
 delta_from _ _ v = None
 
-abbrev pub delta_of : Data → Option Delta
-delta_of d = delta_from (text_at (codes "key") d) (kind_at d) (text_at (codes "value") d)
+abbrev pub delta_in : Data → Option Delta
+delta_in d = delta_from (text_at (codes "key") d) (kind_at d) (text_at (codes "value") d)
 
 abbrev pub cons_if : Option Delta → Option (List Delta) → Option (List Delta)
 cons_if (Some d) (Some ds) = Some (d ∷ ds)
@@ -66,7 +66,7 @@ cons_if _ _ = None
 
 unfoldable pub deltas_of : Items → Option (List Delta)
 deltas_of no_items = Some []
-deltas_of (item d ds) = cons_if (delta_of d) (deltas_of ds)
+deltas_of (item d ds) = cons_if (delta_in d) (deltas_of ds)
 
 abbrev pub kvs_from : Option Items → Option Msg
 kvs_from None = None

@@ -8,7 +8,7 @@ use Rattle.ty_base.specs.declared.delta.Delta.{Delta}
 use Rattle.ty_wire.specs.Wire.{delta_text, deltas_text, value_text, DeltaHasUtf8}
 
 -- deltas that a message may have
-pub record AreSmall (ds : List Delta) : Type 0 where
+pub record AreSendable (ds : List Delta) : Type 0 where
   pub most : length ds ≤ MESSAGE_DELTAS
   pub limits : deltas_fit ds ≡ true
   pub utf8 : AllByRecursion DeltaHasUtf8 ds
@@ -16,7 +16,7 @@ pub record AreSmall (ds : List Delta) : Type 0 where
 -- the bytes are the text of these deltas and the end of a body
 pub record AreSpelled (bytes : List ℕ) (ds : List Delta) : Type 0 where
   pub some : 0 < length ds
-  pub small : AreSmall ds
+  pub small : AreSendable ds
   pub text : bytes ≡ deltas_text ds ++ codes "],\"m\":\"kvs\"}"
 
 -- a delta's text and a comma
@@ -25,7 +25,7 @@ delta_piece d = delta_text d ++ 44 ∷ []
 
 -- the bytes are the text of these deltas, each with a comma, and a rest
 pub record ArePieces (bytes : List ℕ) (ds : List Delta) (rest : List ℕ) : Type 0 where
-  pub small : AreSmall ds
+  pub small : AreSendable ds
   pub text : bytes ≡ flat_map delta_piece ds ++ rest
 
 -- the delta has this key and kind, and its value's text, the closing bracket and a rest are the bytes

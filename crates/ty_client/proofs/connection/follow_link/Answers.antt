@@ -4,7 +4,7 @@ use Rattle.std.specs.Prelude.{Ok}
 use Rattle.ty_base.specs.declared.limits.TheConstants.{PIECE_BYTES}
 use Rattle.ty_client.specs.declared.connection.Taken.{Taken}
 use Rattle.ty_client.specs.Linked.{Scene, scene}
-use Rattle.ty_client.specs.steps.Links.{opening, TakesOn}
+use Rattle.ty_client.specs.steps.Links.{opened_with, TakesOn}
 use Rattle.ty_client.proofs.Linked.{short_here, room_kept}
 use Rattle.ty_client.proofs.connection.follow_link.Goals as goal
 
@@ -15,7 +15,7 @@ pub returns-in_default-clause-fault : goal.returns-in_default-clause-fault
 returns-in_default-clause-fault g c =
     let a : Scene = scene c.args.rebuild.now (g.L.Link.sight c.args.link.now) (g.L.Link.count c.args.link.now) (g.K.Sink.seen c.args.sink.now) in
     let b : Scene = scene c.begin.new.rebuild (g.L.Link.sight c.args.link.now) (g.L.Link.count c.args.link.now) (g.K.Sink.seen c.args.sink.now) in
-    (short_here (Unit {0}) (opening c.args.host.now c.args.brief a) b (λ _. Unit {0}) (c.in-Ok.ensures c.args.brief (g.L.Link.sight c.args.link.now) (g.L.Link.count c.args.link.now) (g.K.Sink.seen c.args.sink.now)).ok).stopped
+    (short_here (Unit {0}) (opened_with c.args.host.now c.args.brief a) b (λ _. Unit {0}) (c.in-Ok.ensures c.args.brief (g.L.Link.sight c.args.link.now) (g.L.Link.count c.args.link.now) (g.K.Sink.seen c.args.sink.now)).ok).stopped
 
 pub loop-init : goal.loop-init
 loop-init g c = record {

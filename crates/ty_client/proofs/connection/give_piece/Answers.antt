@@ -3,7 +3,7 @@ use Rattle.std.proofs.lemmas.List.{length-take}
 use Rattle.std.specs.Prelude.{Option}
 use Rattle.ty_base.specs.Links.{Sight, IsGiven}
 use Rattle.ty_base.specs.Told.{Told}
-use Rattle.ty_client.specs.steps.Links.{opening}
+use Rattle.ty_client.specs.steps.Links.{opened_with}
 use Rattle.ty_client.proofs.Linked.{gives_piece, link_fails}
 use Rattle.ty_client.proofs.connection.give_piece.Goals as goal
 
@@ -21,4 +21,4 @@ returns-in-Ok-clause-came g c = λ brief sink.
 
 pub returns-in-Err-clause-came : goal.returns-in-Err-clause-came
 returns-in-Err-clause-came g c = λ brief sink host old goes.
-    link_fails (Unit {0}) (opening host brief old) c.args.rebuild.now (g.L.Link.sight c.args.link.now) (g.L.Link.sight c.give.new.self) _ _ sink _ goes c.in-Err.ensures.kept c.in-Err.ensures.cause.later c.in-Err.ensures.cause.failed
+    link_fails (Unit {0}) (opened_with host brief old) c.args.rebuild.now (g.L.Link.sight c.args.link.now) (g.L.Link.sight c.give.new.self) _ _ sink _ goes c.in-Err.ensures.kept c.in-Err.ensures.cause.later c.in-Err.ensures.cause.failed

@@ -6,7 +6,7 @@ use Rattle.ty_client.specs.Rebuilt.{Rebuilt}
 use Rattle.ty_client.specs.Text.{rebuilt_text}
 use Rattle.ty_client.specs.Linked.{scene}
 use Rattle.ty_client.specs.steps.Given.{Wrote}
-use Rattle.ty_client.specs.steps.Links.{GoesOn}
+use Rattle.ty_client.specs.steps.Links.{GoesOnOrStops}
 use Rattle.ty_client.specs.declared.follower.FollowFault.{FollowFault}
 use Rattle.ty_client.proofs.Linked.{hears_all, hears_unwritten, hears_short, hears_nothing_of}
 use Rattle.ty_client.proofs.connection.hear.Goals as goal
@@ -19,7 +19,7 @@ returns-in-Ok-give_ats g c = λ x y n m t le.
     let k : Output = g.K.Sink.seen c.args.sink.now in
     let j : Output = g.K.Sink.seen c.give_ats.new.sink in
     let wrote = subst (λ (l : List Rebuilt). Wrote {T = Unit {0}} (Ok tt) k.held j.held k.faults j.faults (rebuilt_text c.args.brief l)) c.as_slice.ensures c.in-Ok-give_ats.ensures in
-    subst (λ (r : Result (Unit {0}) FollowFault). GoesOn c.args.brief (scene c.args.rebuild.now x n k) (scene c.feed.new.self y m j) r) (sym c.go_on.ensures)
+    subst (λ (r : Result (Unit {0}) FollowFault). GoesOnOrStops c.args.brief (scene c.args.rebuild.now x n k) (scene c.feed.new.self y m j) r) (sym c.go_on.ensures)
     (hears_all c.args.brief c.args.rebuild.now c.feed.new.self x y n m k j c.args.bytes.now c.in-Ok.heard.ats c.in-Ok.heard.fault tt c.in-Ok.ensures.here c.in-Ok.ensures.held c.in-Ok.ensures.fault wrote t le)
 
 pub returns-in-Err-Sink : goal.returns-in-Err-Sink

@@ -2,7 +2,7 @@ use Rattle.std.specs.Prelude.{Option, Ok, Err}
 use Rattle.ty_base.specs.Links.{Sight, Takes}
 use Rattle.ty_base.specs.Told.{Told}
 use Rattle.ty_base.specs.declared.link.Took.TheVariants.{End}
-use Rattle.ty_client.specs.steps.Links.{opening}
+use Rattle.ty_client.specs.steps.Links.{opened_with}
 use Rattle.ty_client.proofs.Linked.{told_bytes, takes_quiet, takes_bytes, takes_end, takes_last, takes_cut, stops_first, link_fails}
 use Rattle.ty_client.proofs.connection.take_piece.Goals as goal
 
@@ -44,4 +44,4 @@ pub returns-in-Err-clause-came : goal.returns-in-Err-clause-came
 returns-in-Err-clause-came g c = λ empty host old goes.
     let x : Option Sight = g.L.Link.sight c.args.link.now in
     let y : Option Sight = g.L.Link.sight c.take.new.self in
-    link_fails _ (opening host c.args.brief old) c.args.rebuild.now x y _ _ (g.K.Sink.seen c.args.sink.now) _ goes c.in-Err.ensures.kept c.in-Err.ensures.cause.later c.in-Err.ensures.cause.failed
+    link_fails _ (opened_with host c.args.brief old) c.args.rebuild.now x y _ _ (g.K.Sink.seen c.args.sink.now) _ goes c.in-Err.ensures.kept c.in-Err.ensures.cause.later c.in-Err.ensures.cause.failed
