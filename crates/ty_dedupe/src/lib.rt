@@ -6,6 +6,3 @@ mod drained;
 
 pub use buffer::Buffer;
 pub use drained::{Changes, Drained};
-
-#[cfg(test)]
-mod tests;

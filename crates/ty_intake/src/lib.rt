@@ -7,8 +7,6 @@ mod laws;
 mod line;
 mod pieces;
 mod progress;
-#[cfg(test)]
-mod tests;
 
 pub use batch::{Batches, Closed, Items};
 pub use intake::{Fed, Intake, IntakeFault};

@@ -14,6 +14,3 @@ mod text;
 pub use key::{Key, KeyFault};
 pub use laws::keys_read_back;
 pub use resources::{ResourceKind, kind_of};
-
-#[cfg(test)]
-mod tests;

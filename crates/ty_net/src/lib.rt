@@ -7,8 +7,6 @@ mod cut;
 mod fault;
 mod laws;
 mod ports;
-#[cfg(test)]
-mod tests;
 
 pub use address::{Ip, read_ip};
 pub use cidr::{Cidr, read_cidr};

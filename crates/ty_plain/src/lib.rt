@@ -14,6 +14,3 @@ pub use cut::cuts;
 pub use entries::book;
 pub use row::rows;
 pub use world::{same_worlds, status_of, value_of};
-
-#[cfg(test)]
-mod tests;

@@ -5,8 +5,6 @@ mod check;
 mod part;
 mod rule;
 mod test;
-#[cfg(test)]
-mod tests;
 mod text;
 mod tree;
 

@@ -3,8 +3,6 @@
 
 mod event;
 mod script;
-#[cfg(test)]
-mod tests;
 
 pub use event::{CLIENTS, Event, GET_BYTES, TICK_MILLISECONDS, TIME_LIMIT};
 pub use script::{EventFault, read_event};

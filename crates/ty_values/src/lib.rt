@@ -3,8 +3,6 @@
 
 mod endpoints;
 mod item;
-#[cfg(test)]
-mod item_tests;
 mod keys;
 mod kinds;
 mod label;
@@ -14,8 +12,6 @@ mod policies;
 mod policy_rules;
 mod resources;
 mod selectors;
-#[cfg(test)]
-mod tests;
 mod validity;
 
 pub use item::clean;

@@ -4,8 +4,6 @@
 mod cli;
 mod given;
 mod laws;
-#[cfg(test)]
-mod tests;
 mod words;
 
 pub use laws::hosts_fit;

@@ -1,10 +1,10 @@
 // The items of lines.
-use crate::{Cleaned, Line, Rule, clean};
 use serde_json::Value;
 use std::alloc::Global;
 use std::process::Abort;
 use std::test::Fail;
 use ty_base::{Item, Status, Text};
+use ty_values::{Cleaned, Line, Rule, clean};
 
 const CONFIG: &str = "/calico/v1/config/LogSeverityScreen";
 

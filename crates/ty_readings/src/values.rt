@@ -1,10 +1,10 @@
 // Values as a cluster has them, and each way to break a rule, by the rules' own order.
-use crate::{Rule, ValueFault, check};
 use serde_json::Value;
 use std::alloc::Global;
 use std::process::Abort;
 use std::test::Fail;
 use ty_keys::Key;
+use ty_values::{Rule, ValueFault, check};
 
 const READY: &str = "/calico/v1/Ready";
 

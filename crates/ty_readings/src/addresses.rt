@@ -1,5 +1,5 @@
 // Answers from outside: the examples of RFC 4291 and what Python's `ipaddress` says of the other texts.
-use crate::{Cidr, Ip, NetFault, PortRange, read_cidr, read_ip, read_ports};
+use ty_net::{Cidr, Ip, NetFault, PortRange, read_cidr, read_ip, read_ports};
 
 // Every form of an address, with its fewest and its most groups. Those in capitals are RFC 4291's own.
 const ADDRESSES: [(&str, Ip); 26] = [

@@ -1,7 +1,7 @@
 // Lines and what they say.
-use crate::{Event, EventFault, read_event};
 use std::alloc::Global;
 use std::test::Fail;
+use ty_script::{Event, EventFault, read_event};
 
 // What a line says, as the words of a sentence.
 fn told(alloc: Global, line: &[u8]) -> Result<String, Fail> {

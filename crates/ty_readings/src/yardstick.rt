@@ -1,7 +1,7 @@
-use crate::{book, changes, closings, cuts};
 use std::alloc::Global;
 use std::test::Fail;
 use ty_base::{Deltas, Entry, Item, Kind, Status, Text, print_u64, status_text};
+use ty_plain::{book, changes, closings, cuts};
 
 // An item, in words.
 #[derive(Clone, Copy)]

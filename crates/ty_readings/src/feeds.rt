@@ -1,8 +1,8 @@
 // The batches and the faults of feeds from outside, in pieces.
-use crate::{Closed, Fed, Intake, IntakeFault};
 use std::alloc::Global;
 use std::test::Fail;
 use ty_base::{Item, print_u64, status_text};
+use ty_intake::{Closed, Fed, Intake, IntakeFault};
 
 // What an item says, as one line of text.
 fn tell(item: &Item, out: &mut Vec<u8>) -> Result<(), Fail> {

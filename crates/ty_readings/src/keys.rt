@@ -1,6 +1,6 @@
-use super::*;
 use std::alloc::Global;
 use std::test::Fail;
+use ty_keys::{Key, KeyFault, kind_of};
 
 fn fault(alloc: Global, text: &[u8]) -> Option<KeyFault> {
     match Key::read(alloc, text) {

@@ -1,8 +1,8 @@
 // What the words come to.
-use crate::{Command, read_words};
 use std::alloc::Global;
 use std::test::Fail;
 use ty_base::{NoMemory, Text, print_u64};
+use ty_words::{Command, read_words};
 
 // Of the words between a line's single spaces: two spaces, or one at an end, make an empty word.
 fn asked(rt: &HostRuntime, line: &str) -> Result<Option<Command>, Fail> {

@@ -1,8 +1,8 @@
 // Worked rows, and what want of memory would hide.
-use crate::{Buffer, Drained};
 use std::alloc::Global;
 use std::test::Fail;
 use ty_base::{Item, NoMemory, Status, Text, read_status};
+use ty_dedupe::{Buffer, Drained};
 
 // An item as a word: `a=1` puts, `a-` removes, a status is its text, and any other word is a blank line.
 fn item(alloc: Global, word: &str) -> Result<Item, NoMemory> {

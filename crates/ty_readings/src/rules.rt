@@ -1,17 +1,17 @@
 // Each kind of test and of rule once, over JSON texts.
-use crate::{
+use serde_json::Value;
+use std::process::Abort;
+use std::test::Fail;
+use ty_rules::{
     Action, ActionOrEmpty, ArrayOf, Check, FilledArray, IfGiven, InterfaceOrAll, IpVersion, IsBool,
     IsObject, IsText, ListOf, Mac, NamedPorts, Optional, Profiles, Protocol, Required, Row, Rule,
     Test, TextOf, This, ValueFault, WhereAlso, Whole, WholeWithin, has_float,
 };
-use serde_json::Value;
-use std::process::Abort;
-use std::test::Fail;
 
 // A rule for each member, in the order of the alphabet; members of `z` are flags.
 fn broken(rt: &impl Abort, alloc: std::alloc::Global, text: &str) -> Option<Rule> {
     let value = Value::from_str(alloc, text).expect(rt, "a JSON text");
-    let rules = crate::table![
+    let rules = ty_rules::table![
         Row(Rule::Shape, IsObject),
         Row(Rule::Action, Optional("a", TextOf(Action))),
         Row(Rule::Size, Optional("b", WholeWithin(3, 5))),
@@ -27,15 +27,15 @@ fn broken(rt: &impl Abort, alloc: std::alloc::Global, text: &str) -> Option<Rule
             Rule::Types,
             WhereAlso(
                 Required("r", FilledArray),
-                crate::any_of![
+                ty_rules::any_of![
                     Required("s", IsBool),
-                    crate::all_of![Required("t", Protocol), Required("v", IpVersion)],
+                    ty_rules::all_of![Required("t", Protocol), Required("v", IpVersion)],
                 ],
             ),
         ),
         IfGiven(
             "z",
-            ListOf(Rule::Nets, crate::table![Row(Rule::Flag, IsBool)])
+            ListOf(Rule::Nets, ty_rules::table![Row(Rule::Flag, IsBool)])
         ),
     ];
     match rules.check(alloc, &value) {
