@@ -4,16 +4,12 @@
 
 mod at;
 mod connection;
-#[cfg(test)]
-mod connection_tests;
 mod fault;
 mod follower;
 mod heard;
 mod laws;
 mod rebuild;
 mod stage;
-#[cfg(test)]
-mod tests;
 mod text;
 
 pub use at::{At, Ats};

@@ -10,6 +10,3 @@ pub use crumb::Crumb;
 pub use laws::the_book_grows_by_the_next_batch;
 pub use snapshots::snapshot;
 pub use successor::{Followed, Made, next_crumb, next_crumb_in};
-
-#[cfg(test)]
-mod tests;

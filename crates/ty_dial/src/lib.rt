@@ -3,8 +3,6 @@
 
 mod dial;
 mod fault;
-#[cfg(test)]
-mod tests;
 
 pub use dial::follow_door;
 pub use fault::DialFault;

@@ -6,8 +6,6 @@ mod encoded;
 mod group;
 mod mark;
 mod messages;
-#[cfg(test)]
-mod tests;
 
 pub use encoded::{Encoded, write_encoded};
 pub use group::Group;

@@ -6,8 +6,6 @@ mod line;
 mod run;
 mod steps;
 mod summary;
-#[cfg(test)]
-mod tests;
 mod turns;
 
 pub use run::load;

@@ -12,6 +12,3 @@ pub use laws::{fresh_nodes_add_up, greatest_heights};
 pub use pairs::Pairs;
 pub use tree::{Pair, Tree};
 pub use walk::Walk;
-
-#[cfg(test)]
-mod tests;

@@ -11,8 +11,6 @@ mod queue;
 mod reason;
 mod session;
 mod stance;
-#[cfg(test)]
-mod tests;
 
 pub use drops::{silent, slow, unhello};
 pub use laws::what_is_queued_is_a_talk;

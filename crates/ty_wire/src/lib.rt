@@ -16,8 +16,6 @@ mod message;
 mod partial_frame;
 mod place;
 mod quoted;
-#[cfg(test)]
-mod tests;
 mod unquoted;
 
 pub use cut::cut_kvs;

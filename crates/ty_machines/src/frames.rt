@@ -1,8 +1,8 @@
 // Bodies, lengths and faults from outside, and pieces.
-use crate::{Frames, Msg, Msgs, WireFault, cut_kvs, fits, write, write_group};
 use std::alloc::Global;
 use std::test::Fail;
 use ty_base::{Delta, Deltas, Kind, NoMemory, Status, Text};
+use ty_wire::{Frames, Msg, Msgs, WireFault, cut_kvs, fits, write, write_group};
 
 fn delta(alloc: Global, key: &str, kind: Kind, value: &str) -> Result<Delta, NoMemory> {
     let key = Text::of(alloc, key)?;

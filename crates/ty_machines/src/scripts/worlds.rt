@@ -1,5 +1,5 @@
 // Scripts run through the world.
-use crate::tests::rows::ROWS;
+use crate::scripts::rows::ROWS;
 use std::alloc::Global;
 use std::test::Fail;
 use ty_base::Text;

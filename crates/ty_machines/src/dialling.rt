@@ -1,9 +1,9 @@
 // What no clause says: that links in memory are dialled, followed and given back to the end.
-use crate::{DialFault, follow_door};
 use std::alloc::Global;
 use std::test::Fail;
 use ty_base::{Came, MemDoor, MemLink, MemSink, Piece, Text};
 use ty_client::StreamFault;
+use ty_dial::{DialFault, follow_door};
 
 // A server hello, a status and crumb 3.
 const DOWN: &[u8] =

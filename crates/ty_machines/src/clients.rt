@@ -1,8 +1,8 @@
 // Outside vectors, pieces, and sources and sinks that fail.
-use crate::{FollowFault, Rebuild, StreamFault, follow};
 use std::alloc::Global;
 use std::test::Fail;
 use ty_base::{MemSink, MemSource, Text};
+use ty_client::{FollowFault, Rebuild, StreamFault, follow};
 use ty_wire::WireFault;
 
 // A server hello, crumb 0 with `wait-for-ready`, and crumb 1 with one pair and `in-sync`.

@@ -1,10 +1,10 @@
 // Groups and snapshots whose deltas are cut into several messages.
 use super::{HELLO, give_all, joined, made_of};
-use crate::Session;
 use std::alloc::Global;
 use std::test::Fail;
 use ty_base::{Item, NoMemory, Status, Text, print_u64, status_text};
 use ty_crumb::Crumb;
+use ty_session::Session;
 use ty_wire::{Frames, Msg};
 
 fn put(alloc: Global, key: &str, number: u64) -> Result<Item, NoMemory> {

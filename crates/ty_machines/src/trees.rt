@@ -1,8 +1,8 @@
 // What no clause says: that calls succeed where there is memory, and what they cost then.
-use crate::{Pairs, fresh_nodes};
 use std::alloc::Global;
 use std::test::Fail;
 use ty_base::Text;
+use ty_map::{Pairs, fresh_nodes};
 
 fn text(alloc: Global, n: u32) -> Result<Text, Fail> {
     Ok(Text::from_string(format!(in alloc; "k{n}")?))

@@ -1,6 +1,6 @@
 // Scripts with their reports.
-use crate::tests::worlds::Word;
-use crate::tests::worlds::Word::{Cut, Get, Hear, Join, Line, Step, Tick};
+use crate::scripts::worlds::Word;
+use crate::scripts::worlds::Word::{Cut, Get, Hear, Join, Line, Step, Tick};
 
 pub(crate) struct Row {
     pub script: &'static [Word],

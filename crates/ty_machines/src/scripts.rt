@@ -1,9 +1,9 @@
 // A load that is run; scripts that are run in a world, and from a source.
-use crate::load;
 use std::test::Fail;
+use ty_load::load;
 
+mod reports;
 mod rows;
-mod scripts;
 mod worlds;
 
 const SUMMARY: &str = "load 1

@@ -1,8 +1,8 @@
 // What no clause says: that a connection over a link in memory goes to its end.
-use crate::{Rebuild, follow_link};
 use std::alloc::Global;
 use std::test::Fail;
 use ty_base::{MemLink, MemSink, Piece, Text};
+use ty_client::{Rebuild, follow_link};
 
 // A server hello, a status, a ping and crumb 3.
 const DOWN: &[u8] =

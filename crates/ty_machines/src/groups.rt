@@ -4,10 +4,10 @@ ghost use Rattle.ty_base.specs.Limits.{key_fits, value_fits, deltas_fit};
 ghost use Rattle.ty_base.specs.Passing.{delta_passes};
 ghost use Rattle.ty_wire.specs.Cut.{value_len as len_of_value};
 
-use crate::{Encoded, Group, write_encoded};
 use std::alloc::Global;
 use std::test::Fail;
 use ty_base::{Delta, Deltas, KEY_BYTES, Kind, NoMemory, Status, Text, VALUE_BYTES};
+use ty_group::{Encoded, Group, write_encoded};
 use ty_wire::write_group;
 
 fn repeated(alloc: Global, text: &str, count: usize) -> Result<Text, NoMemory> {

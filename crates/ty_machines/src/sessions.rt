@@ -9,10 +9,10 @@ ghost use Rattle.ty_base.specs.Batches.{IsBatch};
 mod groups;
 mod rows;
 
-use crate::Session;
 use std::alloc::Global;
 use ty_base::{Item, KEY_BYTES, NoMemory, Text, VALUE_BYTES};
 use ty_crumb::{Crumb, Made, next_crumb};
+use ty_session::Session;
 
 const HELLO: &[u8] = b"\x00\x00\x00,{\"host\":\"n1\",\"m\":\"client_hello\",\"version\":1}";
 

@@ -1,10 +1,10 @@
 // What a client may say, when it is dropped, and what is queued: worked rows.
 use super::{HELLO, joined, ready};
-use crate::{Gone, Phase, Reason, Session};
 use std::alloc::Global;
 use std::test::Fail;
 use ty_crumb::Crumb;
 use ty_group::Encoded;
+use ty_session::{Gone, Phase, Reason, Session};
 use ty_wire::WireFault;
 
 const HELLO_9: &[u8] = b"\x00\x00\x00,{\"host\":\"n1\",\"m\":\"client_hello\",\"version\":9}";

@@ -6,13 +6,13 @@ ghost use Rattle.ty_base.specs.Passing.{item_passes};
 ghost use Rattle.ty_base.specs.Limits.{key_fits, value_fits, items_fit};
 ghost use Rattle.ty_base.specs.Batches.{IsBatch};
 
-use crate::{Crumb, Made, next_crumb, snapshot};
 use std::alloc::Global;
 use std::test::Fail;
 use ty_base::{
     BATCH_UPDATES, Deltas, INPUT_BYTES, Item, KEY_BYTES, Kind, NoMemory, Text, VALUE_BYTES,
     print_u64, read_status, status_text,
 };
+use ty_crumb::{Crumb, Made, next_crumb, snapshot};
 use ty_map::fresh_nodes;
 
 // An item as a word: `a=1` puts, `a-` removes, a status is its text, and any other word is a blank line.
