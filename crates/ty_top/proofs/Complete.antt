@@ -40,6 +40,22 @@ use Rattle.ty_top.proofs.Statuses.{at_one, at_three, at_four}
 pub not_none : {X : Type 0} (x : X) → Some x ≡ None → ⊥
 not_none x h = true≢false (ap is_some h)
 
+-- a fault that the front of a connection's bytes shows is one of them all
+pub fault_shows : (front more : List ℕ) (ms ns : List Msg) (f : StreamFault) → Hears front ms (Some f) → Hears (front ++ more) ns None → ⊥
+fault_shows front more ms ns f h g =
+    let longer : Hears (front ++ more) ms (Some f) = record {
+      front = h.front;
+      rest = h.rest ++ more;
+      whole = ap (λ (l : List ℕ). l ++ more) h.whole ∙ append_assoc h.front h.rest more;
+      stops = λ n. absurd (not_none f n);
+      all = h.all;
+      wire = h.wire;
+      brings = h.brings;
+      good = h.good;
+      first = h.first;
+    } in
+    not_none f (once (front ++ more) ms ns (Some f) None longer g).1
+
 -- ---- `stream`
 
 -- a fault that a feed has shown is that of all of it
@@ -51,7 +67,7 @@ still_faulty read more bytes f going e h =
     let P : FeedSoFar → Type 0 = λ x. feed_fault x ≡ Some f in
     subst P whole (end-stays (fed_with read more) f (fed-stays read more f h).0).0
 
-fault_shown : (old new : Seen) (read : FeedSoFar) (bytes : List ℕ) (f : IntakeFault) → Taken old new read → old.source.left ≡ Some bytes → feed_fault read ≡ Some f → feed_fault (whole_feed bytes) ≡ Some f
+pub fault_shown : (old new : Seen) (read : FeedSoFar) (bytes : List ℕ) (f : IntakeFault) → Taken old new read → old.source.left ≡ Some bytes → feed_fault read ≡ Some f → feed_fault (whole_feed bytes) ≡ Some f
 fault_shown old new read bytes f t e h =
     elim (read.ended) as (λ b. read.ended ≡ b → feed_fault (whole_feed bytes) ≡ Some f) [
       | true ↦ λ ended.
@@ -84,26 +100,11 @@ module _ (old new : Seen) (bytes : List ℕ) (known : old.source.left ≡ Some b
 
   -- ---- `follow`
 
-  faulty : (front more : List ℕ) (ms ns : List Msg) (f : StreamFault) → front ++ more ≡ bytes → Hears front ms (Some f) → Hears bytes ns None → ⊥
-  faulty front more ms ns f e h g =
-      let longer : Hears (front ++ more) ms (Some f) = record {
-        front = h.front;
-        rest = h.rest ++ more;
-        whole = ap (λ (l : List ℕ). l ++ more) h.whole ∙ append_assoc h.front h.rest more;
-        stops = λ n. absurd (not_none f n);
-        all = h.all;
-        wire = h.wire;
-        brings = h.brings;
-        good = h.good;
-        first = h.first;
-      } in
-      not_none f (once bytes ms ns (Some f) None (subst (λ (l : List ℕ). Hears l ms (Some f)) e longer) g).1
-
   follow_completes : (brief : Bool) (end : FollowEnd) → Follows brief end old new → (ns : List Msg) → Hears bytes ns None → Reads bytes ns [] → (follow_status end ≡ 0) ⊎ (follow_status end ≡ 5)
   follow_completes brief follow_end.Done s ns g w = inl refl
   follow_completes brief (follow_end.Fault f) s ns g w =
       let r = front_taken old.source.left new.source.left bytes s.bytes known s.taken in
-      absurd (faulty s.bytes r.0 s.ms ns f r.1 s.hears g)
+      absurd (fault_shows s.bytes r.0 s.ms ns f s.hears (subst (λ (l : List ℕ). Hears l ns None) (sym r.1) g))
   follow_completes brief (follow_end.Cut left) (rest, x, some, len) ns g w =
       let same : x.followed.bytes ≡ bytes = all_taken old.source.left new.source.left bytes x.followed.bytes known x.followed.taken x.ended in
       let reads : Reads bytes x.followed.ms rest = subst (λ (b : List ℕ). Reads b x.followed.ms rest) same x.reads in

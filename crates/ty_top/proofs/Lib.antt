@@ -12,6 +12,7 @@ pub mod FollowedStreams
 pub mod BothEnds
 pub mod FeedStreams
 pub mod Complete
+pub mod CompleteLinks
 pub mod LinkStatuses
 pub mod Runs
 pub mod Simulations

@@ -11,6 +11,7 @@ use Rattle.ty_feed.specs.Publishing.{IfReadFailed}
 use Rattle.ty_feed.specs.declared.ending.FeedEnd.{FeedEnd}
 use Rattle.ty_feed.specs.declared.ending.FeedEnd.TheVariants as feed
 use Rattle.ty_server.specs.WholeServer.{AreManned, Run, first_failed}
+use Rattle.ty_intake.specs.Faults.{feed_fault}
 use Rattle.ty_dial.specs.Dialled.{Answer, Dials}
 use Rattle.ty_dial.specs.declared.fault.DialFault.TheVariants as fault
 use Rattle.ty_words.specs.declared.words.Command.{Command}
@@ -19,13 +20,16 @@ use Rattle.ty_words.specs.declared.words.ServeWords.{ServeWords}
 use Rattle.ty_words.specs.declared.words.FollowWords.{FollowWords}
 use Rattle.ty_words.specs.Fitting.{Fits}
 use Rattle.ty_top.specs.Dialling.{FollowsAt, dial_end}
-use Rattle.ty_top.specs.Endings.{IsGood, exit_status}
+use Rattle.ty_top.specs.Endings.{Came, IsGood, exit_status, whole_feed}
+use Rattle.ty_top.specs.GoodLinks.{AreGoodLinks}
 use Rattle.ty_top.specs.Headline.{TellsWorlds}
 use Rattle.ty_top.specs.Program.{Around, IsRun, SomeRose, local, served, followed}
 use Rattle.ty_top.specs.Outcomes.{CameTo, IsLocalOf}
 use Rattle.ty_top.specs.LinkEndings.{dial_note, dial_status, serve_note, serve_status}
 use Rattle.ty_top.specs.Notes.{IsNoted}
 use Rattle.ty_top.specs.Serving.{Serves, feed_end}
+use Rattle.ty_top.specs.declared.ending.Ending.{Ending}
+use Rattle.ty_top.specs.declared.ending.Ending.TheVariants.{Usage, Memory, Stream, Follow as FollowAll, Sim, Load}
 use Rattle.ty_top.specs.declared.ending.Local.{Local}
 use Rattle.ty_top.specs.declared.ending.Outcome.{Outcome}
 use Rattle.ty_top.specs.declared.ending.Outcome.TheVariants.{Ended, Serve, Follow}
@@ -35,6 +39,7 @@ use Rattle.ty_top.specs.declared.link_ending.ServeEnd.TheVariants as serve
 use Rattle.ty_top.specs.declared.link_ending.DialEnd.{DialEnd}
 use Rattle.ty_top.specs.declared.link_ending.DialEnd.TheVariants as dial
 use Rattle.ty_top.proofs.Complete.{done_whole, not_none, read_failed, refused, refuses, status_in, write_failed}
+use Rattle.ty_top.proofs.CompleteLinks.{dialled_whole, served_fault}
 use Rattle.ty_top.proofs.Headline.{tells_worlds}
 use Rattle.ty_top.proofs.Outcomes.{followed_not_done, served_not_done}
 use Rattle.ty_top.proofs.LinkStatuses.{dial_1, dial_3, dial_4, dial_7, serve_1, serve_3, serve_4, serve_7}
@@ -44,6 +49,10 @@ abbrev is_link : Option Command → Bool
 is_link (Some (commands.Serve w)) = false
 is_link (Some (commands.FollowAt w)) = false
 is_link _ = true
+
+abbrev is_served : Option Command → Bool
+is_served (Some (commands.Serve w)) = true
+is_served _ = false
 
 abbrev is_serving : Local → Bool
 is_serving (answer.Serve w) = true
@@ -207,6 +216,42 @@ module _ {D L : Type 0} (gave got count : D → ℕ) (sight : D → Option (Door
     completing (followed w e r) c bytes same known good read_well written_well =
         let is : c ≡ commands.FollowAt w = cc (same, r.asked) in
         absurd (subst (λ (x : Command). IsGood x bytes) is good)
+
+    -- ---- nothing is wrong with what is served, or with what dialled links bring
+
+    unlinked : (e : Ending) (old new : Seen) → Came command e old new → is_link command ≡ false → (command ≡ None → ⊥) → exit_status e ≡ 5
+    unlinked Usage old new c l some = absurd (some c.0)
+    unlinked Memory old new c l some = refl
+    unlinked (Stream e) old new c l some = absurd (true≢false (sym (ap is_link c.1) ∙ l))
+    unlinked (FollowAll e) old new c l some = absurd (true≢false (sym (ap is_link c.1) ∙ l))
+    unlinked (Sim e) old new c l some = absurd (true≢false (sym (ap is_link c.0) ∙ l))
+    unlinked (Load e) old new c l some = absurd (true≢false (sym (ap is_link c.1) ∙ l))
+
+    served_whole : (bytes : List ℕ) → old.source.left ≡ Some bytes → feed_fault (whole_feed bytes) ≡ None
+        → (Rose old.source.faults new.source.faults → ⊥) → (SomeRose count old.doors new.doors → ⊥)
+        → (e : ServeEnd) → status ≡ serve_status e → Serves gave got count sight link faults gives e old.source new.source old.doors new.doors → (status ≡ 0) ⊎ (status ≡ 5)
+    served_whole bytes known good read_well doors_well serve.Done is s = inl is
+    served_whole bytes known good read_well doors_well (serve.Fault f) is s =
+        absurd (not_none f (sym (served_fault gave got count sight link faults gives f old.source new.source old.sink old.doors new.doors bytes s known) ∙ good))
+    served_whole bytes known good read_well doors_well serve.Read is s = absurd (read_well (served_read old.source new.source old.doors new.doors s))
+    served_whole bytes known good read_well doors_well serve.Door is s = absurd (doors_well (served_door old.source new.source old.doors new.doors s))
+    served_whole bytes known good read_well doors_well serve.Memory is s = inr is
+
+    pub serving_whole : Ran → (w : ServeWords) (bytes : List ℕ) → command ≡ Some (commands.Serve w) → old.source.left ≡ Some bytes → feed_fault (whole_feed bytes) ≡ None
+        → (Rose old.source.faults new.source.faults → ⊥) → (SomeRose count old.doors new.doors → ⊥) → (status ≡ 0) ⊎ (status ≡ 5)
+    serving_whole (local e r) w bytes asked known good read_well doors_well =
+        inr (r.status_is ∙ unlinked e (seen old.source old.sink) (seen new.source new.sink) r.cause (ap is_link asked) (λ none. not_none (commands.Serve w) (sym asked ∙ none)))
+    serving_whole (followed v e r) w bytes asked known good read_well doors_well = absurd (true≢false (ap is_served (sym asked ∙ r.asked)))
+    serving_whole (served v e r) w bytes asked known good read_well doors_well = served_whole bytes known good read_well doors_well e r.status_is r.cause
+
+    pub following_whole : Ran → (w : FollowWords) → command ≡ Some (commands.FollowAt w) → AreGoodLinks sight link faults old.dial new.dial
+        → (Rose (count old.dial) (count new.dial) → ⊥) → (Rose old.sink.faults new.sink.faults → ⊥) → (status ≡ 0) ⊎ (status ≡ 5)
+    following_whole (local e r) w asked good dial_well sink_well =
+        inr (r.status_is ∙ unlinked e (seen old.source old.sink) (seen new.source new.sink) r.cause (ap is_link asked) (λ none. not_none (commands.FollowAt w) (sym asked ∙ none)))
+    following_whole (served v e r) w asked good dial_well sink_well = absurd (true≢false (ap is_served (sym r.asked ∙ asked)))
+    following_whole (followed v e r) w asked good dial_well sink_well =
+        let whole = dialled_whole gave got count sight link faults v.host v.tries v.brief old.dial new.dial old.sink new.sink r.cause.answer r.cause.dials good dial_well sink_well in
+        subst (λ (n : ℕ). (n ≡ 0) ⊎ (n ≡ 5)) (sym (r.status_is ∙ ap dial_status r.cause.end_is)) whole
 
     -- ---- from what `local` came to
 

@@ -1,5 +1,6 @@
 pub mod Dialling
 pub mod Endings
+pub mod GoodLinks
 pub mod Headline
 pub mod LinkEndings
 pub mod Needs

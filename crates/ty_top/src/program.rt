@@ -5,7 +5,10 @@ ghost use Rattle.ty_base.specs.Devices.{seen};
 ghost use Rattle.ty_words.specs.Words.{command_of};
 ghost use Rattle.ty_words.specs.declared.words.Command.{Command};
 ghost use Rattle.ty_words.specs.declared.words.ServeWords.{ServeWords};
-ghost use Rattle.ty_top.specs.Endings.{IsGood};
+ghost use Rattle.ty_words.specs.declared.words.FollowWords.{FollowWords};
+ghost use Rattle.ty_intake.specs.Faults.{feed_fault};
+ghost use Rattle.ty_top.specs.Endings.{IsGood, whole_feed};
+ghost use Rattle.ty_top.specs.GoodLinks.{AreGoodLinks};
 ghost use Rattle.ty_top.specs.Headline.{TellsWorlds};
 ghost use Rattle.ty_top.specs.Program.{IsRun, SomeRose, around};
 
@@ -61,6 +64,17 @@ pub fn top<
     ensures complete { (command : Command) (bytes : List ℕ) → command_of words.now ≡ Some command
         → (S.seen source.old).left ≡ Some bytes → IsGood command bytes
         → ¬ (Rose (S.seen source.old).faults (S.seen source.new).faults)
+        → ¬ (Rose (K.seen sink.old).faults (K.seen sink.new).faults)
+        → (result ≡ 0) ⊎ (result ≡ 5) }
+    // The same of a feed that is served, and of what dialled links bring.
+    ensures serve_complete { (w : ServeWords) (bytes : List ℕ) → command_of words.now ≡ Some (Command.Serve w)
+        → (S.seen source.old).left ≡ Some bytes → feed_fault (whole_feed bytes) ≡ None
+        → ¬ (Rose (S.seen source.old).faults (S.seen source.new).faults)
+        → ¬ (SomeRose D.count doors.old.items doors.new.items)
+        → (result ≡ 0) ⊎ (result ≡ 5) }
+    ensures follow_complete { (w : FollowWords) → command_of words.now ≡ Some (Command.FollowAt w)
+        → AreGoodLinks D.sight D.Link.sight D.Link.count dial.old dial.new
+        → ¬ (Rose (D.count dial.old) (D.count dial.new))
         → ¬ (Rose (K.seen sink.old).faults (K.seen sink.new).faults)
         → (result ≡ 0) ⊎ (result ≡ 5) }
     ensures reads { (S.seen source.old).faults ≤ (S.seen source.new).faults }
