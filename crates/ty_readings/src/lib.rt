@@ -16,8 +16,6 @@ mod rules;
 #[cfg(test)]
 mod scripts;
 #[cfg(test)]
-mod selectors;
-#[cfg(test)]
 mod values;
 #[cfg(test)]
 mod words;

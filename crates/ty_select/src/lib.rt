@@ -21,3 +21,6 @@ pub use laws::{
 pub use limits::{MOST_OPEN, WORD_BYTES};
 pub use selector::{Selector, Selectors, Texts};
 pub use word::is_word;
+
+#[cfg(test)]
+mod tests;

@@ -1,7 +1,7 @@
 // Texts that are read, what they print, and the faults of others.
+use crate::{SelectFault, Selector, Wanted};
 use std::alloc::Global;
 use std::test::Fail;
-use ty_select::{SelectFault, Selector, Wanted};
 
 // Whether a text reads as a selector that prints so.
 fn prints(alloc: Global, text: &[u8], wanted: &str) -> Result<bool, Fail> {
