@@ -1,4 +1,5 @@
 pub mod Changed
+pub mod Continued
 pub mod DeltaTexts
 pub mod Escapes
 pub mod Fronts

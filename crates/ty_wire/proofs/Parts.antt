@@ -110,7 +110,7 @@ value_text-len : (v : Option (List ℕ)) → length (value_text v) ≤ 6 * value
 value_text-len None = omega arith
 value_text-len (Some v) = omega (arith, quoted-len v)
 
-delta_text-len : (d : Delta) → length (delta_text d) ≤ 6 * weight d + 38
+pub delta_text-len : (d : Delta) → length (delta_text d) ≤ 6 * weight d + 38
 delta_text-len d =
     let key : List ℕ = quoted d.key in
     let kind : List ℕ = kind_text d.kind in

@@ -1,6 +1,5 @@
 -- A text that is put into a buffer part by part.
 use Rattle.std.proofs.Common.{◌≡◌, ℕ, ◌+◌, ◌-◌, ◌<◌, ◌≤◌, List, [], ◌++◌, length, take, drop, get_or, refl, sym, ap, subst, ◌∙◌, arith, append_assoc, append-nil, length-append, length-take-le, take-add, take-take, take_at, drop_at, drop-drop}
-use Rattle.std.proofs.lemmas.List.{take-append-le}
 use Rattle.std.specs.List.{prefix_len}
 use Rattle.json.specs.Filled.{Placed}
 use Rattle.json.specs.Run.{is_plain}
@@ -61,22 +60,3 @@ part-byte a b c at n end text x w e h p q =
 -- the next part of a text that is owed from `from` on
 pub owes-part : (a b c : List ℕ) (at i from n j : ℕ) (text : List ℕ) → PlacedSoFar a b at i (escape text) (escape (drop from text)) → PlacesPart b c i (drop from text) n j → PlacedSoFar a c at j (escape text) (escape (drop (from + n) text))
 owes-part a b c at i from n j text o p = owes-step p.piece (escape (drop (from + n) text)) o (p.split ∙ ap (λ (l : List ℕ). p.piece ++ escape l) (drop-drop n from text)) p.placed
-
--- ---- a part that is put in front of what was put
-
-pub placed-headed : {a b c : List ℕ} {at end : ℕ} {head body : List ℕ} (k : ℕ) → k ≤ length a → Placed a b k body end → Placed b c at head k → drop k c ≡ drop k b → Placed a c at (head ++ body) end
-placed-headed {a} {b} {c} {at} {end} {head} {body} k within p q same =
-    let n : ℕ = length body in
-    let front : take at b ≡ take at a =
-    sym (take-take at end b (omega (arith, p.moved, q.moved))) ∙ ap (take at) p.bytes
-    ∙ take-append-le at (take k a) body (omega (arith, length-take-le k a within, q.moved)) ∙ take-take at k a (omega (arith, q.moved)) in
-    let split : (l : List ℕ) → take end l ≡ take k l ++ take n (drop k l) = λ l. ap (λ (m : ℕ). take m l) p.moved ∙ take-add k n l in
-    let behind : take n (drop k b) ≡ body =
-    sym (drop_at (take k b) (take n (drop k b)) k (length-take-le k b (omega (arith, within, p.len)))) ∙ ap (drop k) (sym (split b) ∙ p.bytes)
-    ∙ drop_at (take k a) body k (length-take-le k a within) in
-    record {
-      bytes = split c ∙ ap (λ (l : List ℕ). l ++ take n (drop k c)) (q.bytes ∙ ap (λ (l : List ℕ). l ++ head) front)
-          ∙ ap (λ (l : List ℕ). (take at a ++ head) ++ l) (ap (take n) same ∙ behind) ∙ append_assoc (take at a) head body;
-      moved = omega (arith, p.moved, q.moved, length-append head body);
-      len = q.len ∙ p.len;
-    }

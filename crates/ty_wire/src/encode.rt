@@ -1,5 +1,5 @@
 // A message's frame. A KVs message is written where it will stand, the others by `json`'s writer.
-ghost use Rattle.std.specs.Prelude.{◌≡◌, ◌+◌, ◌≤◌, ◌<◌, ◌++◌, length, drop, flat_map, nat_le, IfOk, OnOk, OnErr, true};
+ghost use Rattle.std.specs.Prelude.{◌≡◌, ◌+◌, ◌≤◌, ◌<◌, ◌++◌, length, drop, flat_map, nat_le, vec_len, vec_capacity, IfOk, OnOk, OnErr, true};
 ghost use Rattle.std.specs.Int.{to_be_bytes, w32};
 ghost use Rattle.std.specs.Str.{IsUtf8};
 ghost use Rattle.json.specs.Filled.{Placed};
@@ -10,7 +10,7 @@ ghost use Rattle.ty_wire.specs.steps.Tokens.{msg_tokens, kvs_tokens, delta_token
 ghost use Rattle.ty_wire.specs.declared.message.Msg.TheVariants.{ClientHello, Kvs, Status as StatusMsg};
 
 use crate::frame::HEAD_BYTES;
-use crate::kvs::{kind_text, place_kvs, room};
+use crate::kvs::{append_kvs, kind_text, room};
 use crate::message::Msg;
 use crate::place::lengthen;
 use crate::quoted::LANES;
@@ -69,26 +69,37 @@ pub(crate) fn write_deltas(deltas: &[Delta], out: &mut Vec<u8>) -> Result<(), No
     ensures err { OnErr result (out.new.items ≡ out.old.items) }
 {
     let at = out.as_slice().len();
-    let room = room(deltas);
-    lengthen(out, HEAD_BYTES + room + LANES)?;
-    let end = place_frame(out.as_mut_slice(), at, deltas);
-    out.truncate(end);
+    let room = HEAD_BYTES + room(deltas) + LANES;
+    out.reserve(room)?;
+    append_frame(out, deltas, at + room);
     Ok(())
 }
 
-// Puts the body, and then its length in front of it.
-fn place_frame(buf: &mut [u8], at: usize, deltas: &[Delta]) -> usize
+// Appends the body, and puts its length in front of it. The buffer has room up to `most`.
+fn append_frame(out: &mut Vec<u8>, deltas: &[Delta], most: usize)
     requires some { 0 < length deltas.now }
     requires short { length (body (Kvs deltas.now)) ≤ BODY_BYTES }
-    requires room { at + (HEAD_BYTES + length (body (Kvs deltas.now)) + LANES) ≤ length buf.old }
-    ensures { Placed buf.old buf.new at (frame (Kvs deltas.now)) result }
+    requires room { vec_len out.old + (HEAD_BYTES + length (body (Kvs deltas.now)) + LANES) ≤ most }
+    requires most { most ≤ vec_capacity out.old }
+    ensures { out.new.items ≡ out.old.items ++ frame (Kvs deltas.now) }
 {
-    let end = place_kvs(buf, at + HEAD_BYTES, deltas);
-    place_len(buf, at, end - at - HEAD_BYTES);
-    end
+    let at = out.len();
+    lengthen(out, at + HEAD_BYTES);
+    let end = append_kvs(out, at + HEAD_BYTES, deltas, most);
+    put_len(out, at, end - at - HEAD_BYTES);
+    out.truncate(end);
 }
 
 // Puts a length, and leaves what is behind it.
+fn put_len(out: &mut Vec<u8>, at: usize, len: usize)
+    requires short { len ≤ BODY_BYTES }
+    requires room { at + HEAD_BYTES ≤ length out.old.items }
+    ensures placed { Placed out.old.items out.new.items at (to_be_bytes w32 len) (at + HEAD_BYTES) }
+    ensures behind { drop (at + HEAD_BYTES) out.new.items ≡ drop (at + HEAD_BYTES) out.old.items }
+{
+    place_len(out.as_mut_slice(), at, len);
+}
+
 fn place_len(buf: &mut [u8], at: usize, len: usize)
     requires short { len ≤ BODY_BYTES }
     requires room { at + HEAD_BYTES ≤ length buf.old }

@@ -1,15 +1,16 @@
 // The body of a KVs message: how long it is, or how long at most, and its bytes in a buffer.
-ghost use Rattle.std.specs.Prelude.{◌≡◌, ◌+◌, ◌*◌, ◌<◌, ◌≤◌, length, nat_le, true};
+ghost use Rattle.std.specs.Prelude.{◌≡◌, ℕ, ◌+◌, ◌*◌, ◌<◌, ◌≤◌, ◌++◌, length, nat_le, vec_capacity, true};
 ghost use Rattle.std.specs.List.{AllByRecursion, sum_by};
 ghost use Rattle.json.specs.Filled.{Placed};
+ghost use Rattle.ty_wire.specs.steps.Placed.{Continued};
 ghost use Rattle.ty_base.specs.Passing.{delta_passes, option_passes};
 ghost use Rattle.ty_base.specs.Limits.{key_fits, value_fits, deltas_fit};
-ghost use Rattle.ty_wire.specs.Wire.{body, delta_text, value_text, deltas_text, kind_text as kind_word, DeltaHasUtf8, ValueHasUtf8};
+ghost use Rattle.ty_wire.specs.Wire.{body, delta_text, value_text, kind_text as kind_word, DeltaHasUtf8, ValueHasUtf8};
 ghost use Rattle.ty_wire.specs.Cut.{weight as weight_of_delta};
 ghost use Rattle.ty_wire.specs.declared.message.Msg.TheVariants.{Kvs};
 
 use crate::cut::weight_of;
-use crate::place::place;
+use crate::place::{lengthen, place};
 use crate::quoted::{LANES, escaped_len, place_quoted};
 use ty_base::{BODY_BYTES, Delta, Kind, MESSAGE_DELTAS, Text};
 
@@ -84,30 +85,66 @@ fn value_text_len(value: &Option<Text>) -> usize
     }
 }
 
-// Puts the body.
-pub(crate) fn place_kvs(buf: &mut [u8], at: usize, deltas: &[Delta]) -> usize
+// Puts the body at a place of a buffer with room up to `most`, and lengthens it as far as that goes.
+pub(crate) fn append_kvs(out: &mut Vec<u8>, at: usize, deltas: &[Delta], most: usize) -> usize
     requires some { 0 < length deltas.now }
-    requires room { at + length (body (Kvs deltas.now)) + LANES ≤ length buf.old }
-    ensures { Placed buf.old buf.new at (body (Kvs deltas.now)) result }
+    requires within { at ≤ length out.old.items }
+    requires room { at + length (body (Kvs deltas.now)) + LANES ≤ most }
+    requires most { most ≤ vec_capacity out.old }
+    ensures { Continued out.old.items out.new.items at (body (Kvs deltas.now)) result }
 {
-    let at = place(buf, at, b"{\"kvs\":[");
-    let at = place_deltas(buf, at, deltas);
-    place(buf, at, b"],\"m\":\"kvs\"}")
-}
-
-fn place_deltas(buf: &mut [u8], at: usize, deltas: &[Delta]) -> usize
-    requires some { 0 < length deltas.now }
-    requires room { at + length (deltas_text deltas.now) + LANES ≤ length buf.old }
-    ensures { Placed buf.old buf.new at (deltas_text deltas.now) result }
-{
-    let mut end = place_delta(buf, at, &deltas[0]);
+    let mut end = append_delta(out, at, b"{\"kvs\":[", &deltas[0], most);
     let mut count = 1;
     while count < deltas.len() {
-        end = place(buf, end, b",");
-        end = place_delta(buf, end, &deltas[count]);
+        end = append_delta(out, end, b",", &deltas[count], most);
         count += 1;
     }
-    end
+    append_text(out, end, b"],\"m\":\"kvs\"}")
+}
+
+fn append_text(out: &mut Vec<u8>, at: usize, text: &[u8]) -> usize
+    requires within { at ≤ length out.old.items }
+    requires room { at + length text.now ≤ vec_capacity out.old }
+    ensures { Continued out.old.items out.new.items at text.now result }
+{
+    lengthen(out, at + text.len());
+    place(out.as_mut_slice(), at, text)
+}
+
+// Puts what stands before a delta, and the delta.
+fn append_delta(out: &mut Vec<u8>, at: usize, before: &[u8], delta: &Delta, most: usize) -> usize
+    requires short { length before.now ≤ 8 }
+    requires within { at ≤ length out.old.items }
+    requires room { at + (length before.now + length (delta_text delta.now)) + LANES ≤ most }
+    requires most { most ≤ vec_capacity out.old }
+    ensures put { Continued out.old.items out.new.items at (before.now ++ delta_text delta.now) result }
+    ensures capacity { vec_capacity out.old ≤ vec_capacity out.new }
+{
+    lengthen(out, delta_end(at, delta, most));
+    place_behind(out.as_mut_slice(), at, before, delta)
+}
+
+fn place_behind(buf: &mut [u8], at: usize, before: &[u8], delta: &Delta) -> usize
+    requires { at + (length before.now + length (delta_text delta.now)) + LANES ≤ length buf.old }
+    ensures { Placed buf.old buf.new at (before.now ++ delta_text delta.now) result }
+{
+    let at = place(buf, at, before);
+    place_delta(buf, at, delta)
+}
+
+// How far a buffer is lengthened for a delta behind up to 8 bytes: as if each byte of a light one
+// had an escape of six bytes, and for a heavy one as far as there is room.
+fn delta_end(at: usize, delta: &Delta, most: usize) -> usize
+    requires { at ≤ most }
+    ensures most { result ≤ most }
+    ensures enough { (n : ℕ) → n ≤ most → n ≤ at + (8 + length (delta_text delta.now) + LANES)
+        → n ≤ result }
+{
+    let weight = weight_of(delta);
+    if weight > LIGHT_BYTES {
+        return most;
+    }
+    at + (most - at).min(6 * weight + 63)
 }
 
 // Puts the text of one delta.

@@ -1,8 +1,6 @@
 // Bytes that are put at places of a buffer, which has room for them.
-ghost use Rattle.std.specs.Prelude.{◌≡◌, ◌+◌, ◌≤◌, length, take, vec_len, vec_capacity, OnOk, OnErr};
+ghost use Rattle.std.specs.Prelude.{◌≡◌, ◌+◌, ◌≤◌, length, take, vec_len, vec_capacity};
 ghost use Rattle.json.specs.Filled.{Placed};
-
-use ty_base::NoMemory;
 
 const ZEROS: [u8; 1024] = [0; 1024];
 
@@ -17,27 +15,16 @@ pub(crate) fn place(buf: &mut [u8], at: usize, bytes: &[u8]) -> usize
     end
 }
 
-// Appends so many bytes to be overwritten. Want of memory leaves what was there.
-pub(crate) fn lengthen(out: &mut Vec<u8>, more: usize) -> Result<(), NoMemory>
-    ensures front { OnOk result (take (vec_len out.old) out.new.items ≡ out.old.items) }
-    ensures len { OnOk result (vec_len out.new ≡ vec_len out.old + more) }
-    ensures err { OnErr result (out.new.items ≡ out.old.items) }
-{
-    out.reserve(more)?;
-    fill(out, more);
-    Ok(())
-}
-
-// A block at a time.
-fn fill(out: &mut Vec<u8>, more: usize)
-    requires { vec_len out.old + more ≤ vec_capacity out.old }
+// Lengthens to so many bytes at least, a block at a time. The new ones are to be overwritten.
+pub(crate) fn lengthen(out: &mut Vec<u8>, wanted: usize)
+    requires { wanted ≤ vec_capacity out.old }
     ensures front { take (vec_len out.old) out.new.items ≡ out.old.items }
-    ensures len { vec_len out.new ≡ vec_len out.old + more }
+    ensures longer { vec_len out.old ≤ vec_len out.new }
+    ensures enough { wanted ≤ vec_len out.new }
+    ensures capacity { vec_capacity out.old ≤ vec_capacity out.new }
 {
-    let mut left = more;
-    while left > 0 {
-        let step = left.min(ZEROS.len());
+    while out.len() < wanted {
+        let step = ZEROS.len().min(out.capacity() - out.len());
         out.extend_from_slice(&ZEROS[..step]).unwrap();
-        left -= step;
     }
 }

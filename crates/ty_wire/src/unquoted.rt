@@ -66,7 +66,8 @@ fn make_room(scratch: &mut Vec<u8>, len: usize) -> Result<(), NoMemory>
     let wanted = len.checked_add(LANES).ok_or(NoMemory)?;
     let now = scratch.as_slice().len();
     if now < wanted {
-        lengthen(scratch, wanted - now)?;
+        scratch.reserve(wanted - now)?;
+        lengthen(scratch, wanted);
     }
     Ok(())
 }

@@ -21,3 +21,15 @@ pub record ReadsPart (old new : List ℕ) (at : ℕ) (bytes rest : List ℕ) (en
   pub split : bytes ≡ escape text ++ rest
   pub placed : Placed old new at text end
   pub less : end + length rest ≤ at + length bytes
+
+-- new, which may be longer than old, has xs behind the first `at` bytes of old, up to `end`
+pub record Continued (old new : List ℕ) (at : ℕ) (xs : List ℕ) (end : ℕ) : Type 0 where
+  pub bytes : take end new ≡ take at old ++ xs
+  pub moved : end ≡ at + length xs
+  pub within : end ≤ length new
+
+-- `whole` is to stand there: it is put as far as `end`, and what is left of it is `rest`
+pub record ContinuedSoFar (old new : List ℕ) (at end : ℕ) (whole rest : List ℕ) : Type 0 where
+  pub bytes : take end new ++ rest ≡ take at old ++ whole
+  pub moved : end + length rest ≡ at + length whole
+  pub within : end ≤ length new

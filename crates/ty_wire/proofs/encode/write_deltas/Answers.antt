@@ -3,4 +3,4 @@ use Rattle.ty_wire.specs.declared.message.Msg.TheVariants.{Kvs}
 use Rattle.ty_wire.proofs.encode.write_deltas.Goals as goal
 
 pub returns-clause-wire : goal.returns-clause-wire
-returns-clause-wire c = is_wire (Kvs c.args.deltas.now) c.room-room.ensures.utf8 c.requires
+returns-clause-wire c = is_wire (Kvs c.args.deltas.now) c.room.ensures.utf8 c.requires
