@@ -1,13 +1,12 @@
 -- Each change of a batch makes few nodes, and a batch at most so many for each of its updates.
-use Rattle.std.proofs.Common.{◌≡◌, ℕ, ◌+◌, ◌*◌, ◌^◌, ◌<◌, ◌≤◌, Bool, not, List, [], ◌∷◌, ◌++◌, append_assoc, length, refl, sym, ap, subst, ◌∙◌, arith, add-mul, mul-le-mul_right, Less, Equal, Greater}
-use Rattle.std.specs.Prelude.{Option, None, Some, Result, Ok, Err, IfOk}
+use Rattle.std.proofs.Common.{◌≡◌, ℕ, ◌+◌, ◌*◌, ◌^◌, ◌<◌, ◌≤◌, Bool, not, List, [], ◌∷◌, length, refl, sym, ap, subst, arith, add-mul, mul-le-mul_right, Less, Equal, Greater}
+use Rattle.std.specs.Prelude.{Option, None, Some}
 use Rattle.std.specs.Ordering.{nat_cmp}
 use Rattle.std.specs.Cmp.Lexicographic.{slice_cmp}
-use Rattle.std.specs.List.{filter, filter_map, count_by, cons_option}
+use Rattle.std.specs.List.{filter, filter_map, count_by}
 use Rattle.std.specs.Str.{bytes_eq}
 use Rattle.std.specs.FinMap.Entries.{by_order}
 use Rattle.ty_base.specs.Readings.{last_put}
-use Rattle.ty_base.specs.declared.delta.Delta.{Delta}
 use Rattle.std.proofs.lemmas.Nat.{mul-le}
 use Rattle.std.proofs.lemmas.List.{length-map}
 use Rattle.std.proofs.lemmas.List.Sums.{length-filter, count_by-le-length}

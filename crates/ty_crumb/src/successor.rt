@@ -16,7 +16,7 @@ ghost use Rattle.ty_crumb.specs.declared.crumb.Crumb.{Crumb as ACrumb};
 ghost use Rattle.ty_crumb.specs.Crumbs.{CrumbStands, world_of, is_unchanged, IfNext, entries_of, IsMadeFor, made_of, IfGivenBack, added, most_fresh};
 ghost use Rattle.ty_crumb.specs.steps.Applied.{AreApart};
 ghost use Rattle.ty_crumb.specs.steps.Deltas.{updated, deleted, delta_of};
-ghost use Rattle.ty_crumb.specs.steps.Following.{IsLike, IsMadeOf};
+ghost use Rattle.ty_crumb.specs.steps.Following.{IsLike, IsLeftBy, IsMadeOf};
 
 use crate::crumb::Crumb;
 use std::alloc::Global;
@@ -82,60 +82,63 @@ pub fn next_crumb(
         pairs: last.pairs.copy()?,
         deltas: Deltas::new(alloc),
     };
-    Ok(made_of(made_after(alloc, base, items, cut, now)?))
+    let pending = drained(alloc, items)?;
+    Ok(made_of(made_after(alloc, base, pending, cut, now)?))
 }
 
-/// The same of a breadcrumb that is given up for the next one: what of its map nobody shares changes in place. It is given
-/// back where nothing is made. At want of memory it is gone.
+/// The same of a breadcrumb that is given up for the next one, and of items that are handed over: what of its map nobody
+/// shares changes in place, and the deltas have the items' own keys and values. It is given back where nothing is made. At
+/// want of memory it is gone.
 pub fn next_crumb_in(
     alloc: Global,
     last: Crumb,
-    items: &[Item],
+    items: Vec<Item>,
     cut: u64,
     now: u64,
 ) -> Result<Followed, NoMemory>
-    requires batch { IsBatch items.now }
+    requires batch { IsBatch items.items }
     requires later { last.cut ≤ cut }
     requires few { last.number < INPUT_BYTES }
     ensures unchanged { IfOk result (λ f. is_unchanged (made_of f)
-        ≡ same_world (world_of last) (fold after (world_of last) items.now)) }
+        ≡ same_world (world_of last) (fold after (world_of last) items.items)) }
     ensures given_back { IfOk result (λ f. IfGivenBack f (λ c. c ≡ last)) }
     ensures entries { IfOk result (λ f. entries_of (made_of f)
-        ≡ next_entries cut (world_of last) items.now) }
+        ≡ next_entries cut (world_of last) items.items) }
     ensures number { IfOk result (λ f. IfNext (made_of f) (λ c. c.number ≡ last.number + 1)) }
     ensures at { IfOk result (λ f. IfNext (made_of f) (λ c. c.at ≡ now)) }
     ensures world { IfOk result (λ f. IfNext (made_of f) (λ c. world_of c
-        ≡ fold after (world_of last) items.now)) }
+        ≡ fold after (world_of last) items.items)) }
     ensures few { IfOk result (λ f. IfNext (made_of f) (λ c. fresh last.pairs c.pairs
-        ≤ most_fresh (length (pairs last.pairs)) (count_by is_update items.now))) }
+        ≤ most_fresh (length (pairs last.pairs)) (count_by is_update items.items))) }
     ensures stands { (entries : List Entry) → CrumbStands last entries
         → IfOk result (λ f. IfNext (made_of f) (λ c. CrumbStands c (entries ++ entries_of (made_of f)))) }
     ensures book { (ended : Bool) (before : List Item) → IsClosed before
-        → IsNextBatch ended before items.now
-        → cut ≡ length before + length items.now → CrumbStands last (book false before)
-        → IfOk result (λ f. IsMadeFor (book false before) (book ended (before ++ items.now)) (made_of f)) }
+        → IsNextBatch ended before items.items
+        → cut ≡ length before + length items.items → CrumbStands last (book false before)
+        → IfOk result (λ f. IsMadeFor (book false before) (book ended (before ++ items.items)) (made_of f)) }
 {
-    made_after(alloc, last, items, cut, now)
+    let pending = drained_of(alloc, items)?;
+    made_after(alloc, last, pending, cut, now)
 }
 
-// The same for each breadcrumb with this number, status and map.
+// The same for each breadcrumb with this number, status and map, and each batch that leaves this pending.
 fn made_after(
     alloc: Global,
     last: Crumb,
-    items: &[Item],
+    pending: Drained,
     cut: u64,
     now: u64,
 ) -> Result<Followed, NoMemory>
-    requires batch { IsBatch items.now }
+    requires batch { (items : List Item) × IsLeftBy pending items }
     requires few { last.number < INPUT_BYTES }
-    ensures made { (held : ACrumb) → IsLike held last
-        → IfOk result (λ f. IsMadeOf held items.now cut now (made_of f)) }
+    ensures made { (held : ACrumb) (items : List Item) → IsLike held last → IsLeftBy pending items
+        → IfOk result (λ f. IsMadeOf held items cut now (made_of f)) }
     ensures given_back { IfOk result (λ f. IfGivenBack f (λ c. c ≡ last)) }
 {
     let Drained {
-        pairs: pending,
+        pairs: changes,
         status,
-    } = drained(alloc, items)?;
+    } = pending;
     let Crumb {
         number,
         status: before,
@@ -145,7 +148,7 @@ fn made_after(
         deltas: last_deltas,
     } = last;
     let status = status.unwrap_or(before);
-    let (pairs, deltas) = changed_by(alloc, pairs, pending.into_vec())?;
+    let (pairs, deltas) = changed_by(alloc, pairs, changes.into_vec())?;
     if is_same(before, status, &deltas) {
         return Ok(Followed::Unchanged(Crumb {
             number,
@@ -195,6 +198,18 @@ fn drained(alloc: Global, items: &[Item]) -> Result<Drained, NoMemory>
     buffer.drain(alloc)
 }
 
+// The same of items that are handed over.
+fn drained_of(alloc: Global, items: Vec<Item>) -> Result<Drained, NoMemory>
+    ensures pairs { IfOk result (λ d. d.pairs ≡ pending items.items) }
+    ensures status { IfOk result (λ d. d.status ≡ last_status items.items) }
+{
+    let mut buffer = Buffer::new(alloc);
+    for item in items {
+        buffer.take(item)?;
+    }
+    buffer.drain(alloc)
+}
+
 // The map in which each pending key has its value, and what that changes.
 fn changed_by(
     alloc: Global,
@@ -210,7 +225,7 @@ fn changed_by(
         ≤ most_fresh (length (pairs last)) (length pending.items)) }
 {
     let mut map = last;
-    let mut deltas = Deltas::new(alloc);
+    let mut deltas = Deltas::from_vec(Vec::with_capacity(alloc, pending.len())?);
     for (key, value) in pending {
         let (after, delta) = applied(alloc, map, key, value)?;
         map = after;

@@ -1,13 +1,12 @@
 -- The breadcrumbs that batches make were given.
-use Rattle.std.proofs.Common.{◌≡◌, ℕ, zero, suc, ◌+◌, ◌<◌, ◌≤◌, ◌^◌, Bool, true, false, cond, List, [], ◌∷◌, ◌++◌, length, take, drop, refl, sym, ap, subst, ◌∙◌, arith, append_assoc, append-nil, length-append, get_or, take-append-drop, drop-cons, add-one}
+use Rattle.std.proofs.Common.{◌≡◌, ℕ, zero, suc, ◌+◌, ◌<◌, ◌≤◌, ◌^◌, Bool, true, false, cond, List, [], ◌∷◌, ◌++◌, length, refl, sym, ap, subst, ◌∙◌, arith, append_assoc, append-nil, length-append}
 use Rattle.std.specs.Prelude.{Option, None, Some, Result, Ok, Err, OnOk}
 use Rattle.std.specs.List.{fold, filter, range_with_len, list_all}
-use Rattle.std.proofs.lemmas.List.{take_more}
 use Rattle.std.proofs.lemmas.List.Folds.{list_all-append}
 use Rattle.ty_base.proofs.Passing.{left, right}
 use Rattle.ty_top.proofs.Limits.{items_within}
 use Rattle.ty_intake.specs.declared.batch.Closed.{Closed}
-use Rattle.ty_intake.specs.Batches.{batches, batch_fits, joined}
+use Rattle.ty_intake.specs.Batches.{batch_fits, joined}
 use Rattle.ty_intake.proofs.NextBatches.{IsNext, next_of, joined_more, is_batch, next_at_end}
 use Rattle.std.proofs.lemmas.List.FromFn.{length-map-range_with_len}
 use Rattle.ty_base.specs.declared.item.Item.{Item}
@@ -197,82 +196,85 @@ opened j s c a b d k e f g =
 
 -- The batches that are owed
 
-module _ (c0 : Crumb) (closed : List Closed) (i : ℕ) (b : Closed) (h : i < length closed) (is : b ≡ get_or closed i b) (o : Owed c0 closed) where
+-- of all batches those before the rest were given
+pub record GivenTo (j : ℕ) (c0 c : Crumb) (closed rest : List Closed) (x y : Output) : Type 0 where
+  pub taken : List Closed
+  pub whole : taken ++ rest ≡ closed
+  pub given : (o : Owed c0 closed) → AreGiven j (Ok tt) c (joined o.done) (joined (o.done ++ taken)) x y
+
+module _ (j : ℕ) (c0 c : Crumb) (closed before rest : List Closed) (b : Closed) (x y : Output) (g : GivenTo j c0 c closed before x y) (is : before ≡ b ∷ rest) (o : Owed c0 closed) where
   abbrev front : List Closed
-  front = o.done ++ take i closed
+  front = o.done ++ g.taken
 
-  split : closed ≡ take i closed ++ b ∷ drop (i + 1) closed
-  split = sym (take-append-drop i closed) ∙ ap (λ l. take i closed ++ l) (drop-cons closed i b h ∙ ap (λ n. get_or closed i b ∷ drop n closed) (sym (add-one i)) ∙ ap (λ x. x ∷ drop (i + 1) closed) (sym is))
-
-  whole : batches o.ended o.items ≡ front ++ b ∷ drop (i + 1) closed
-  whole = o.whole ∙ ap (λ l. o.done ++ l) split ∙ sym (append_assoc o.done (take i closed) (b ∷ drop (i + 1) closed))
+  split : closed ≡ g.taken ++ b ∷ rest
+  split = sym g.whole ∙ ap (λ l. g.taken ++ l) is
 
   is_next : IsNext o.ended o.items front b
-  is_next = next_of o.ended o.items front b (drop (i + 1) closed) whole
+  is_next =
+      next_of o.ended o.items front b rest
+      (o.whole ∙ ap (λ l. o.done ++ l) split ∙ sym (append_assoc o.done g.taken (b ∷ rest)))
 
   comes_next : IsNextBatch true (joined front) b.items
   comes_next = next_at_end o.ended (joined front) b.items is_next.next
 
-  front_more : o.done ++ take (i + 1) closed ≡ front ++ b ∷ []
-  front_more = ap (λ l. o.done ++ l) (take_more closed i b h ∙ ap (λ x. take i closed ++ x ∷ []) (sym is)) ∙ sym (append_assoc o.done (take i closed) (b ∷ []))
+  now : AreGiven j (Ok tt) c (joined o.done) (joined front) x y
+  now = g.given o
 
-  pub batch_is : IsBatch b.items
-  batch_is =
-      let all : list_all batch_fits (take i closed ++ b ∷ drop (i + 1) closed) ≡ true = ap (list_all batch_fits) (sym split) ∙ o.fits in
-      let rest : list_all batch_fits (b ∷ drop (i + 1) closed) ≡ true = right (list_all batch_fits (take i closed)) (list_all batch_fits (b ∷ drop (i + 1) closed)) (sym (list_all-append batch_fits (take i closed) (b ∷ drop (i + 1) closed)) ∙ all) in
-      is_batch true (joined front) b.items is_next.closed comes_next (items_within b.items (left (batch_fits b) (list_all batch_fits (drop (i + 1) closed)) rest))
+  pub batch_owed : IsBatch b.items
+  batch_owed =
+      let all : list_all batch_fits (g.taken ++ b ∷ rest) ≡ true = ap (list_all batch_fits) (sym split) ∙ o.fits in
+      let rest_fits : list_all batch_fits (b ∷ rest) ≡ true = right (list_all batch_fits g.taken) (list_all batch_fits (b ∷ rest)) (sym (list_all-append batch_fits g.taken (b ∷ rest)) ∙ all) in
+      is_batch true (joined front) b.items is_next.closed comes_next (items_within b.items (left (batch_fits b) (list_all batch_fits rest) rest_fits))
 
-  module _ (j : ℕ) (c : Crumb) (x y : Output) (p : AreGiven j (Ok tt) c (joined o.done) (joined front) x y) where
-    pub cut_is : c.cut ≤ b.cut
-    cut_is = omega (arith, p.crumb_of.cut, is_next.cut)
+  pub cut_owed : c.cut ≤ b.cut
+  cut_owed = omega (arith, now.crumb_of.cut, is_next.cut)
 
-    pub few_are : c.number < 2 ^ 40
-    few_are = omega (arith, few_entries c (joined front) p.crumb_of, is_next.cut, is_next.within, o.few)
+  pub few_owed : c.number < 2 ^ 40
+  few_owed = omega (arith, few_entries c (joined front) now.crumb_of, is_next.cut, is_next.within, o.few)
 
-    abbrev Steps : Result (Unit {0}) Unwritten → Crumb → Output → Type 0
-    Steps r d z = (before : List Item) → IsClosed before → IsNextBatch true before b.items → b.cut ≡ length before + length b.items → CrumbOf c before → AreGiven j r d before (before ++ b.items) y z
-
-    step : (r : Result (Unit {0}) Unwritten) (d : Crumb) (z : Output) → Steps r d z → AreGiven j r d (joined o.done) (joined (o.done ++ take (i + 1) closed)) x z
-    step r d z s =
+  module _ (r : Result (Unit {0}) Unwritten) (d : Crumb) (z : Output)
+      (s : (start : List Item) → IsClosed start → IsNextBatch true start b.items → b.cut ≡ length start + length b.items → CrumbOf c start → AreGiven j r d start (start ++ b.items) y z) where
+    pub published_one : AreGiven j r d (joined o.done) (joined (o.done ++ (g.taken ++ b ∷ []))) x z
+    published_one =
         let P : List Item → Type 0 = λ l. AreGiven j r d (joined o.done) l x z in
-        subst P (sym (joined_more front b) ∙ ap joined (sym front_more))
-        (published_then r j c d (joined o.done) (joined front) (joined front ++ b.items) x y z p (s (joined front) is_next.closed comes_next is_next.cut p.crumb_of))
+        subst P (sym (joined_more front b) ∙ ap joined (append_assoc o.done g.taken (b ∷ [])))
+        (published_then r j c d (joined o.done) (joined front) (joined front ++ b.items) x y z now (s (joined front) is_next.closed comes_next is_next.cut now.crumb_of))
 
-    stops : (e : Unwritten) (d : Crumb) (z : Output) → Steps (Err e) d z → AreGiven j (Err e) d (joined o.done) (joined (o.done ++ closed)) x z
-    stops e d z s =
-        let whole_more : batches o.ended o.items ≡ (o.done ++ take (i + 1) closed) ++ drop (i + 1) closed =
-        o.whole ∙ ap (λ l. o.done ++ l) (sym (take-append-drop (i + 1) closed)) ∙ sym (append_assoc o.done (take (i + 1) closed) (drop (i + 1) closed)) in
-        let rest = all_more j o.ended o.items (drop (i + 1) closed) (o.done ++ take (i + 1) closed) whole_more in
-        published_part e j d (joined o.done) (joined (o.done ++ take (i + 1) closed)) (joined (o.done ++ closed)) x z rest.0 (step (Err e) d z s)
-        (ap (λ (l : List Closed). streamed (joined l) j) (sym (append_assoc o.done (take (i + 1) closed) (drop (i + 1) closed) ∙ sym (ap (λ l. o.done ++ l) (sym (take-append-drop (i + 1) closed))))) ∙ rest.1)
+  -- what is owed behind the batch
+  behind : o.done ++ closed ≡ (o.done ++ (g.taken ++ b ∷ [])) ++ rest
+  behind = ap (λ l. o.done ++ l) (split ∙ sym (append_assoc g.taken (b ∷ []) rest)) ∙ sym (append_assoc o.done (g.taken ++ b ∷ []) rest)
 
-pub batch_owed : (c0 : Crumb) (closed : List Closed) (i : ℕ) (b : Closed) → i < length closed → b ≡ get_or closed i b → Owed c0 closed → IsBatch b.items
-batch_owed c0 closed i b h is o = batch_is c0 closed i b h is o
+  pub published_stops : (e : Unwritten) (d : Crumb) (z : Output)
+      → ((start : List Item) → IsClosed start → IsNextBatch true start b.items → b.cut ≡ length start + length b.items → CrumbOf c start → AreGiven j (Err e) d start (start ++ b.items) y z)
+      → AreGiven j (Err e) d (joined o.done) (joined (o.done ++ closed)) x z
+  published_stops e d z s =
+      let more = all_more j o.ended o.items rest (o.done ++ (g.taken ++ b ∷ [])) (o.whole ∙ behind) in
+      published_part e j d (joined o.done) (joined (o.done ++ (g.taken ++ b ∷ []))) (joined (o.done ++ closed)) x z more.0 (published_one (Err e) d z s)
+      (ap (λ (l : List Closed). streamed (joined l) j) behind ∙ more.1)
 
-pub cut_owed : (j : ℕ) (c0 c : Crumb) (closed : List Closed) (i : ℕ) (b : Closed) (x y : Output) → i < length closed → b ≡ get_or closed i b → (o : Owed c0 closed)
-    → AreGiven j (Ok tt) c (joined o.done) (joined (o.done ++ take i closed)) x y → c.cut ≤ b.cut
-cut_owed j c0 c closed i b x y h is o p = cut_is c0 closed i b h is o j c x y p
+pub published_begins : (j : ℕ) (c : Crumb) (closed rest : List Closed) (x : Output) → rest ≡ closed → GivenTo j c c closed rest x x
+published_begins j c closed rest x e = record {
+  taken = [];
+  whole = e;
+  given = λ o.
+      let P : List Closed → Type 0 = λ l. AreGiven j (Ok tt) c (joined o.done) (joined l) x x in
+      subst P (sym (append-nil o.done)) (published_at_once j c (joined o.done) x o.crumb_of);
+}
 
-pub few_owed : (j : ℕ) (c0 c : Crumb) (closed : List Closed) (i : ℕ) (b : Closed) (x y : Output) → i < length closed → b ≡ get_or closed i b → (o : Owed c0 closed)
-    → AreGiven j (Ok tt) c (joined o.done) (joined (o.done ++ take i closed)) x y → c.number < 2 ^ 40
-few_owed j c0 c closed i b x y h is o p = few_are c0 closed i b h is o j c x y p
+pub published_step : (j : ℕ) (c0 c d : Crumb) (closed before rest : List Closed) (b : Closed) (x y z : Output) → GivenTo j c0 c closed before x y → before ≡ b ∷ rest
+    → ((start : List Item) → IsClosed start → IsNextBatch true start b.items → b.cut ≡ length start + length b.items → CrumbOf c start → AreGiven j (Ok tt) d start (start ++ b.items) y z)
+    → GivenTo j c0 d closed rest x z
+published_step j c0 c d closed before rest b x y z g is s = record {
+  taken = g.taken ++ b ∷ [];
+  whole = append_assoc g.taken (b ∷ []) rest ∙ ap (λ l. g.taken ++ l) (sym is) ∙ g.whole;
+  given = λ o. published_one j c0 c closed before rest b x y g is o (Ok tt) d z s;
+}
 
-pub published_begins : (j : ℕ) (c : Crumb) (closed : List Closed) (x : Output) (o : Owed c closed) → AreGiven j (Ok tt) c (joined o.done) (joined (o.done ++ [])) x x
-published_begins j c closed x o =
-    let P : List Closed → Type 0 = λ l. AreGiven j (Ok tt) c (joined o.done) (joined l) x x in
-    subst P (sym (append-nil o.done)) (published_at_once j c (joined o.done) x o.crumb_of)
-
-pub published_step : (j : ℕ) (c0 c d : Crumb) (closed : List Closed) (i : ℕ) (b : Closed) (x y z : Output) → i < length closed → b ≡ get_or closed i b → (o : Owed c0 closed)
-    → AreGiven j (Ok tt) c (joined o.done) (joined (o.done ++ take i closed)) x y
-    → ((before : List Item) → IsClosed before → IsNextBatch true before b.items → b.cut ≡ length before + length b.items → CrumbOf c before → AreGiven j (Ok tt) d before (before ++ b.items) y z)
-    → AreGiven j (Ok tt) d (joined o.done) (joined (o.done ++ take (i + 1) closed)) x z
-published_step j c0 c d closed i b x y z h is o p s = step c0 closed i b h is o j c x y p (Ok tt) d z s
-
-pub published_stops : (e : Unwritten) (j : ℕ) (c0 c d : Crumb) (closed : List Closed) (i : ℕ) (b : Closed) (x y z : Output) → i < length closed → b ≡ get_or closed i b → (o : Owed c0 closed)
-    → AreGiven j (Ok tt) c (joined o.done) (joined (o.done ++ take i closed)) x y
-    → ((before : List Item) → IsClosed before → IsNextBatch true before b.items → b.cut ≡ length before + length b.items → CrumbOf c before → AreGiven j (Err e) d before (before ++ b.items) y z)
-    → AreGiven j (Err e) d (joined o.done) (joined (o.done ++ closed)) x z
-published_stops e j c0 c d closed i b x y z h is o p s = stops c0 closed i b h is o j c x y p e d z s
+pub published_ends : (j : ℕ) (c0 c : Crumb) (closed rest : List Closed) (x y : Output) → GivenTo j c0 c closed rest x y → rest ≡ [] → (o : Owed c0 closed)
+    → AreGiven j (Ok tt) c (joined o.done) (joined (o.done ++ closed)) x y
+published_ends j c0 c closed rest x y g e o =
+    let P : List Closed → Type 0 = λ l. AreGiven j (Ok tt) c (joined o.done) (joined (o.done ++ l)) x y in
+    subst P (sym (append-nil g.taken) ∙ ap (λ l. g.taken ++ l) (sym e) ∙ g.whole) (g.given o)
 
 -- Batches, and then a fault
 

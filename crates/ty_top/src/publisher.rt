@@ -57,21 +57,23 @@ fn opening(alloc: Global, from: u64, crumb: &Crumb) -> Result<Vec<u8>, NoMemory>
     Ok(out)
 }
 
-// Gives the breadcrumbs that these batches make, and then tells of the fault.
+// Gives the breadcrumbs that these batches make, and then tells of the fault. The bytes of each lie in `out`.
 pub(crate) fn publish_fed<K: Sink>(
     alloc: Global,
     from: u64,
-    fed: &Fed,
+    fed: Fed,
     crumb: &mut Crumb,
+    out: &mut Vec<u8>,
     sink: &mut K,
 ) -> Result<(), Stop>
-    requires { Owed crumb.old fed.now.closed }
-    ensures published { (o : Owed crumb.old fed.now.closed)
-        → AreGivenAndTold from result fed.now.fault crumb.new (joined o.done) (joined (o.done ++ fed.now.closed)) (K.seen sink.old) (K.seen sink.new) }
+    requires { Owed crumb.old fed.closed }
+    ensures published { (o : Owed crumb.old fed.closed)
+        → AreGivenAndTold from result fed.fault crumb.new (joined o.done) (joined (o.done ++ fed.closed)) (K.seen sink.old) (K.seen sink.new) }
     ensures later { (K.seen sink.old).faults ≤ (K.seen sink.new).faults }
 {
-    match publish_all(alloc, from, fed.closed.as_slice(), crumb, sink) {
-        Ok(()) => go_on(fed.fault),
+    let Fed { closed, fault } = fed;
+    match publish_all(alloc, from, closed.into_vec(), crumb, out, sink) {
+        Ok(()) => go_on(fault),
         Err(Unwritten::Sink) => Err(Stop::Sink),
         Err(Unwritten::Memory) => Err(Stop::Memory),
     }
@@ -90,16 +92,17 @@ fn go_on(fault: Option<IntakeFault>) -> Result<(), Stop>
 fn publish_all<K: Sink>(
     alloc: Global,
     from: u64,
-    closed: &[Closed],
+    closed: Vec<Closed>,
     crumb: &mut Crumb,
+    out: &mut Vec<u8>,
     sink: &mut K,
 ) -> Result<(), Unwritten>
-    requires { Owed crumb.old closed.now }
-    ensures { (o : Owed crumb.old closed.now)
-        → AreGiven from result crumb.new (joined o.done) (joined (o.done ++ closed.now)) (K.seen sink.old) (K.seen sink.new) }
+    requires { Owed crumb.old closed.items }
+    ensures { (o : Owed crumb.old closed.items)
+        → AreGiven from result crumb.new (joined o.done) (joined (o.done ++ closed.items)) (K.seen sink.old) (K.seen sink.new) }
 {
     for batch in closed {
-        match publish(alloc, from, batch, crumb, sink) {
+        match publish(alloc, from, batch, crumb, out, sink) {
             Ok(()) => {}
             Err(e) => return Err(e),
         }
@@ -111,48 +114,51 @@ fn publish_all<K: Sink>(
 fn publish<K: Sink>(
     alloc: Global,
     from: u64,
-    batch: &Closed,
+    batch: Closed,
     crumb: &mut Crumb,
+    out: &mut Vec<u8>,
     sink: &mut K,
 ) -> Result<(), Unwritten>
-    requires batch { IsBatch batch.now.items }
-    requires later { crumb.old.cut ≤ batch.now.cut }
+    requires batch { IsBatch batch.items }
+    requires later { crumb.old.cut ≤ batch.cut }
     requires few { crumb.old.number < INPUT_BYTES }
-    ensures { (before : List AnItem) → IsClosed before → IsNextBatch true before batch.now.items
-        → batch.now.cut ≡ length before + length batch.now.items → CrumbOf crumb.old before
-        → AreGiven from result crumb.new before (before ++ batch.now.items) (K.seen sink.old) (K.seen sink.new) }
+    ensures { (before : List AnItem) → IsClosed before → IsNextBatch true before batch.items
+        → batch.cut ≡ length before + length batch.items → CrumbOf crumb.old before
+        → AreGiven from result crumb.new before (before ++ batch.items) (K.seen sink.old) (K.seen sink.new) }
 {
+    let Closed { items, cut } = batch;
     let before = crumb.status;
     // The last breadcrumb is given up, so that its map changes in place.
     let last = mem::replace(crumb, Crumb::first(alloc, 0));
-    match next_crumb_in(alloc, last, batch.items.as_slice(), batch.cut, 0) {
+    match next_crumb_in(alloc, last, items.into_vec(), cut, 0) {
         Ok(Followed::Unchanged(last)) => {
             *crumb = last;
             Ok(())
         }
         Ok(Followed::Next(next)) => {
             *crumb = next;
-            give_crumb(alloc, from, before, crumb, sink)
+            give_crumb(alloc, from, before, crumb, out, sink)
         }
         Err(_) => Err(Unwritten::Memory),
     }
 }
 
-// Gives what is said of a breadcrumb behind one with this status.
+// Gives what is said of a breadcrumb behind one with this status. `out` is filled anew.
 fn give_crumb<K: Sink>(
     alloc: Global,
     from: u64,
     before: Status,
     crumb: &Crumb,
+    out: &mut Vec<u8>,
     sink: &mut K,
 ) -> Result<(), Unwritten>
     ensures { Gave result (K.seen sink.old) (K.seen sink.new) (frames (crumb_messages from before crumb.now)) }
 {
-    let mut out = Vec::new(alloc);
-    let Ok(()) = append_crumb(alloc, from, before, crumb, &mut out) else {
+    out.clear();
+    let Ok(()) = append_crumb(alloc, from, before, crumb, out) else {
         return Err(Unwritten::Memory);
     };
-    give(&out, sink)
+    give(out, sink)
 }
 
 fn give<K: Sink>(bytes: &[u8], sink: &mut K) -> Result<(), Unwritten>

@@ -35,15 +35,17 @@ pub(crate) fn stream_source<S: Source, K: Sink>(
     let Ok(()) = piece.resize(PIECE_BYTES, 0u8) else {
         return StreamEnd::Memory;
     };
+    let mut out = Vec::new(alloc);
     let mut taken = 0;
     while taken < INPUT_BYTES {
         let Ok(count) = source.take(&mut piece) else {
             return StreamEnd::Read;
         };
         if count == 0 {
-            return ended_by(finish(alloc, from, &mut intake, &mut crumb, sink));
+            return ended_by(finish(alloc, from, &mut intake, &mut crumb, &mut out, sink));
         }
-        match read_piece(alloc, from, &mut intake, &mut crumb, &piece[..count], sink) {
+        let front = &piece[..count];
+        match read_piece(alloc, from, &mut intake, &mut crumb, front, &mut out, sink) {
             Ok(()) => taken += count,
             Err(stop) => return stream_end(stop),
         }
@@ -58,6 +60,7 @@ fn read_piece<K: Sink>(
     intake: &mut Intake,
     crumb: &mut Crumb,
     piece: &[u8],
+    out: &mut Vec<u8>,
     sink: &mut K,
 ) -> Result<(), Stop>
     requires { (feed : FeedSoFar) × IsReadTo intake.old crumb.old feed }
@@ -68,7 +71,7 @@ fn read_piece<K: Sink>(
     let Ok(fed) = intake.feed(alloc, piece) else {
         return Err(Stop::Memory);
     };
-    publish_fed(alloc, from, &fed, crumb, sink)
+    publish_fed(alloc, from, fed, crumb, out, sink)
 }
 
 // The feed has ended: gives the breadcrumbs that its last batches make.
@@ -77,6 +80,7 @@ fn finish<K: Sink>(
     from: u64,
     intake: &mut Intake,
     crumb: &mut Crumb,
+    out: &mut Vec<u8>,
     sink: &mut K,
 ) -> Result<(), Stop>
     requires { (feed : FeedSoFar) × IsReadTo intake.old crumb.old feed }
@@ -87,7 +91,7 @@ fn finish<K: Sink>(
     let Ok(fed) = intake.end(alloc) else {
         return Err(Stop::Memory);
     };
-    publish_fed(alloc, from, &fed, crumb, sink)
+    publish_fed(alloc, from, fed, crumb, out, sink)
 }
 
 // How a run ends whose last piece, or end, came to this.

@@ -4,9 +4,11 @@ use Rattle.std.specs.List.{fold, count_by}
 use Rattle.ty_base.specs.declared.item.Item.{Item}
 use Rattle.ty_base.specs.declared.entry.Entry.{Entry}
 use Rattle.ty_base.specs.Feed.{after, book, same_world, is_update}
-use Rattle.ty_base.specs.Batches.{IsClosed, IsNextBatch}
+use Rattle.ty_base.specs.Batches.{IsBatch, IsClosed, IsNextBatch}
 use Rattle.ty_map.specs.Fresh.{fresh}
 use Rattle.ty_map.specs.Shape.{pairs}
+use Rattle.ty_dedupe.specs.declared.drained.Drained.{Drained}
+use Rattle.ty_dedupe.specs.Pending.{pending, last_status}
 use Rattle.ty_crumb.specs.declared.crumb.Crumb.{Crumb}
 use Rattle.ty_crumb.specs.declared.successor.Made.{Made}
 use Rattle.ty_crumb.specs.Batches.{next_entries}
@@ -17,6 +19,12 @@ pub record IsLike (one other : Crumb) : Type 0 where
   pub number : one.number ≡ other.number
   pub status : one.status ≡ other.status
   pub pairs : one.pairs ≡ other.pairs
+
+-- the items are a batch, and this is what they leave pending
+pub record IsLeftBy (drained : Drained) (items : List Item) : Type 0 where
+  pub batch : IsBatch items
+  pub pairs : drained.pairs ≡ pending items
+  pub status : drained.status ≡ last_status items
 
 pub record IsMadeOf (last : Crumb) (items : List Item) (cut now : ℕ) (m : Made) : Type 0 where
   pub unchanged : is_unchanged m ≡ same_world (world_of last) (fold after (world_of last) items)

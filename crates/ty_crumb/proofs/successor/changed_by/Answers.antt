@@ -1,11 +1,11 @@
-use Rattle.std.proofs.Common.{◌≡◌, [], arith}
+use Rattle.std.proofs.Common.{◌≡◌, ◌∙◌, [], arith}
 use Rattle.std.proofs.lemmas.Grind.{common_steps}
 use Rattle.std.specs.Vec.Iter.{into_iter_items}
 use Rattle.ty_crumb.proofs.Applied.{applied_none, applied_more, all_told, few_made}
 use Rattle.ty_crumb.proofs.successor.changed_by.Goals as goal
 
 pub loop-key-init : goal.loop-key-init
-loop-key-init c = applied_none _ _ _ _ c.new-deltas.ensures c.into_iter-key-iterator.ensures.into_iter_gives.0 c.requires
+loop-key-init c = applied_none _ _ _ _ (c.from_vec-deltas.ensures ∙ c.in_ok-with_capacity.ensures.items) c.into_iter-key-iterator.ensures.into_iter_gives.0 c.requires
 
 pub loop-key-preserved : goal.loop-key-preserved
 loop-key-preserved c =

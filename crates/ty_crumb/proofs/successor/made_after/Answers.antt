@@ -14,32 +14,32 @@ use Rattle.ty_crumb.proofs.Following.{nothing_made, next_made}
 use Rattle.ty_crumb.proofs.successor.made_after.Goals as goal
 
 pub changed_by-requires : goal.changed_by-requires
-changed_by-requires c = subst AreApart (sym (c.into_vec.ensures ∙ c.in_ok-pending.ensures.pairs)) (pending_apart c.args.items.now)
+changed_by-requires c = let items = c.requires.batch.0 in subst AreApart (sym (c.into_vec.ensures ∙ c.requires.batch.1.pairs)) (pending_apart items)
 
 pub returns-then-is_same-clause-made : goal.returns-then-is_same-clause-made
-returns-then-is_same-clause-made c =
+returns-then-is_same-clause-made c = λ held items like left.
     let last = c.args.last in
-    let items = c.args.items.now in
-    let made = makes (world_of last) items _ _ _ _ _ last.ascending (c.into_vec.ensures ∙ c.in_ok-pending.ensures.pairs) c.in_ok-pending.ensures.status c.in_ok-pairs.ensures.deltas refl c.unwrap_or-status.ensures in
-    λ held like. nothing_made held last items c.args.cut c.args.now _ _ _ like made (sym c.if-is_same.true ∙ c.is_same.ensures)
+    let made = makes (world_of last) items _ _ _ _ _ last.ascending (c.into_vec.ensures ∙ left.pairs) left.status c.in_ok-pairs.ensures.deltas refl c.unwrap_or-status.ensures in
+    nothing_made held last items c.args.cut c.args.now _ _ _ like made (sym c.if-is_same.true ∙ c.is_same.ensures)
 
 pub invariant_of-result-2 : goal.invariant_of-result-2
 invariant_of-result-2 c =
     let last = c.args.last in
     let w = world_of last in
-    let items = c.args.items.now in
-    let made = makes w items _ _ _ _ _ last.ascending (c.into_vec.ensures ∙ c.in_ok-pending.ensures.pairs) c.in_ok-pending.ensures.status c.in_ok-pairs.ensures.deltas c.in_ok-pairs.ensures.pairs c.unwrap_or-status.ensures in
+    let items = c.requires.batch.0 in
+    let left_by = c.requires.batch.1 in
+    let made = makes w items _ _ _ _ _ last.ascending (c.into_vec.ensures ∙ left_by.pairs) left_by.status c.in_ok-pairs.ensures.deltas c.in_ok-pairs.ensures.pairs c.unwrap_or-status.ensures in
     record {
       ascending = subst IsInOrder (sym made.pairs) (in_order-after items w last.ascending);
       within =
           ap (λ x. pairs_fit x && deltas_fit c.in_ok-pairs.deltas) made.pairs
           ∙ ap (λ x. pairs_fit (fold after w items).pairs && deltas_fit x) made.deltas
-          ∙ batch_passes key_fits value_fits w items c.requires.batch.fits (left (pairs_fit (pairs last.pairs)) (deltas_fit last.deltas) last.within);
+          ∙ batch_passes key_fits value_fits w items left_by.batch.fits (left (pairs_fit (pairs last.pairs)) (deltas_fit last.deltas) last.within);
     }
 
 pub returns-clause-made : goal.returns-clause-made
-returns-clause-made c =
+returns-clause-made c = λ held items like left.
     let last = c.args.last in
-    let items = c.args.items.now in
-    let made = makes (world_of last) items _ _ _ _ _ last.ascending (c.into_vec.ensures ∙ c.in_ok-pending.ensures.pairs) c.in_ok-pending.ensures.status c.in_ok-pairs.ensures.deltas c.in_ok-pairs.ensures.pairs c.unwrap_or-status.ensures in
-    λ held like. next_made held last _ items c.args.cut c.args.now _ like made (sym c.if-is_same.false ∙ c.is_same.ensures) refl refl refl c.in_ok-pairs.ensures.pairs c.in_ok-pairs.ensures.few (c.into_vec.ensures ∙ c.in_ok-pending.ensures.pairs)
+    let keys = c.into_vec.ensures ∙ left.pairs in
+    let made = makes (world_of last) items _ _ _ _ _ last.ascending keys left.status c.in_ok-pairs.ensures.deltas c.in_ok-pairs.ensures.pairs c.unwrap_or-status.ensures in
+    next_made held last _ items c.args.cut c.args.now _ like made (sym c.if-is_same.false ∙ c.is_same.ensures) refl refl refl c.in_ok-pairs.ensures.pairs c.in_ok-pairs.ensures.few keys
