@@ -3,6 +3,10 @@
 #![tactic(auto)]
 
 mod answers;
+#[cfg(test)]
+mod gate_tests;
+#[cfg(test)]
+mod gates;
 mod giving;
 mod greeting;
 mod listening;
