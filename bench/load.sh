@@ -10,6 +10,7 @@ best() {
         { bash -c 'TIMEFORMAT="%U %S"; time "$@" >/dev/null' measure "$@"; } 2>&1
     done | awk '{ t = $1 + $2; if (NR == 1 || t < best) best = t } END { printf "%.3f", best }'
 }
+# shellcheck disable=SC2016 # the inner shell expands
 stream() { best sh -c '"$1" stream <"$2"' measure "$program" "$work/feed"; }
 load=$(best "$program" load --number 1)
 plain=$(stream)

@@ -10,29 +10,17 @@ nothing. Before, a client finds no server, and a second server finds its port ta
 only what it started, and uses 127.0.0.1 alone. The last line is 'N equal, M differ', and the status tells whether all is well.
 """
 import argparse
-import json
-import os
 import random
-import signal
 import socket
 import subprocess
 import sys
-import tempfile
 import threading
 import time
 
-TOP = os.path.dirname(os.path.dirname(os.path.abspath(__file__)))
-PROGRAM = os.path.join(TOP, 'crates/typha/out/typha')
-LIMIT = 90
+from program import LIMIT, PROGRAM, Client, check_built, free_port, hello, rebuilt
+
 KEYS = 200
-TAIL = 1 << 16
 PARTS = 50
-
-
-def free_port():
-    with socket.socket() as probe:
-        probe.bind(('127.0.0.1', 0))
-        return probe.getsockname()[1]
 
 
 def feed_lines(updates):
@@ -45,53 +33,11 @@ def feed_lines(updates):
     yield '{"status":"in-sync"}\n'
 
 
-def last_map(text):
-    """The lines from the last `at` on, in the file of a client's text."""
-    text.seek(0, os.SEEK_END)
-    text.seek(max(0, text.tell() - TAIL))
-    tail = text.read()
-    return tail[tail.rfind(b'\nat ') + 1:]
-
-
-def expected(feed):
-    """What `stream | follow` prints at last."""
-    with tempfile.TemporaryFile() as lines, tempfile.TemporaryFile() as frames, tempfile.TemporaryFile() as text:
-        lines.write(feed)
-        lines.seek(0)
-        subprocess.run([PROGRAM, 'stream'], stdin=lines, stdout=frames, check=True, timeout=LIMIT)
-        frames.seek(0)
-        subprocess.run([PROGRAM, 'follow'], stdin=frames, stdout=text, check=True, timeout=LIMIT)
-        return last_map(text)
-
-
-class Client:
-    """A client of the program's own, whose text goes to a file."""
-
-    def __init__(self, port):
-        self.text = tempfile.TemporaryFile()
-        self.process = subprocess.Popen([PROGRAM, 'follow', '--at', '127.0.0.1:%d' % port], stdout=self.text,
-                                        stderr=subprocess.PIPE)
-
-    def kill(self):
-        self.process.send_signal(signal.SIGKILL)
-        self.process.wait()
-
-    def ended(self):
-        """Its status, its note and its last map."""
-        _, note = self.process.communicate(timeout=LIMIT)
-        return self.process.returncode, note, last_map(self.text)
-
-
-def frame(message):
-    body = json.dumps(message, separators=(',', ':'), sort_keys=True).encode()
-    return len(body).to_bytes(4, 'big') + body
-
-
 def rude(port, kind):
     """A connection that closes in mid-frame, or one that stays and is silent, before its hello or behind it."""
     sock = socket.create_connection(('127.0.0.1', port), 5)
     if kind != 'silent':
-        sock.sendall(frame({'m': 'client_hello', 'version': 1, 'host': 'rude'}))
+        sock.sendall(hello('rude'))
     if kind == 'closing':
         sock.recv(50)
         sock.close()
@@ -139,10 +85,9 @@ def main():
     words.add_argument('--updates', type=int, default=100_000)
     words.add_argument('--clients', type=int, default=40)
     words = words.parse_args()
-    if not os.access(PROGRAM, os.X_OK):
-        sys.exit('build the program first: ./typha stream </dev/null')
+    check_built()
     feed = ''.join(feed_lines(words.updates)).encode()
-    want = expected(feed)
+    want = rebuilt(feed)
     port = free_port()
     good = before_the_server(port)
     server = subprocess.Popen([PROGRAM, 'serve', '--at', '127.0.0.1:%d' % port, '--workers', '64'],

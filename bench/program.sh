@@ -1,3 +1,4 @@
+# shellcheck shell=sh
 # The built program, and a scratch folder that is gone at the end. A script of this folder reads it with `.`.
 top=$(CDPATH='' cd -- "$(dirname -- "$0")/.." && pwd)
 program=$top/crates/typha/out/typha

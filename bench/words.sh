@@ -9,9 +9,9 @@
 # stays: kind_of a resource's kind by its plural in ty_keys, and the kind of a change in ty_map, which share nothing
 set -u
 stays=$(sed -n 's/^# stays: \([^ ]*\) .*/\1/p' "$0")
-cd "$(dirname "$0")/.."
-find crates -path '*/specs/*' -name '*.antt' -not -path '*/out/*' -not -path '*/must-fail/*' |
-    xargs grep -HoE "^(unfoldable pub|abbrev pub|pub record|pub data|unfoldable|abbrev|record|data) [^ :(]+" |
+cd "$(dirname "$0")/.." || exit
+find crates -path '*/specs/*' -name '*.antt' -not -path '*/out/*' -not -path '*/must-fail/*' -print0 |
+    xargs -0 grep -HoE "^(unfoldable pub|abbrev pub|pub record|pub data|unfoldable|abbrev|record|data) [^ :(]+" |
     awk -F: '{ n = split($2, parts, " "); word = parts[n]; places[word] = places[word] " " $1; count[word]++ }
              END { for (word in count) if (count[word] > 1) if (word != "mutual") print word ":" places[word] }' |
     sort | { if [ -n "$stays" ]; then grep -vxE "($(echo "$stays" | paste -sd'|')):.*" || true; else cat; fi; }
