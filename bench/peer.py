@@ -12,11 +12,10 @@ import os
 import random
 import statistics
 import subprocess
-import sys
 import tempfile
 
-TOP = os.path.dirname(os.path.dirname(os.path.abspath(__file__)))
-PROGRAM = os.path.join(TOP, 'crates/typha/out/typha')
+from program import PROGRAM, check_built
+
 UPDATES = 300_000
 VALUE_BYTES = 100
 LETTERS = 'abcdefghijklmnopqrstuvwxyzABCDEFGHIJKLMNOPQRSTUVWXYZ0123456789 ._/-'
@@ -83,8 +82,7 @@ def main():
     words.add_argument('--runs', type=int, default=5)
     words.add_argument('--cluster')
     words = words.parse_args()
-    if not os.access(PROGRAM, os.X_OK):
-        sys.exit('build the program first: ./typha stream </dev/null')
+    check_built()
     stream = {'peer': [words.peer, 'stream'], 'typha': [PROGRAM, 'stream']}
     follow = {'peer': [words.peer, 'follow'], 'typha': [PROGRAM, 'follow', '--brief']}
     with tempfile.TemporaryDirectory() as work:

@@ -13,6 +13,7 @@ a C compiler (`cc`): the refusals are made by a library that is loaded before th
 """
 import collections
 import concurrent.futures
+import contextlib
 import fcntl
 import os
 import subprocess
@@ -58,15 +59,12 @@ __attribute__((constructor)) static void begin(void) {
     if (most) piece = atol(most);
     begun = 1;
 }
-__attribute__((destructor)) static void end(void) {
+void _exit(int status) {
     const char *path = getenv("COUNTS");
     begun = 0;
     int file = path ? open(path, O_WRONLY | O_CREAT | O_TRUNC, 0600) : -1;
-    if (file < 0) return;
-    char text[99];
-    int length = snprintf(text, sizeof text, "%ld %ld %ld", called[MEMORY], called[READ], called[WRITE]);
-    syscall(SYS_write, file, text, length);
-    close(file);
+    if (file >= 0) dprintf(file, "%ld %ld %ld", called[MEMORY], called[READ], called[WRITE]);
+    for (;;) syscall(SYS_exit_group, status);
 }
 static int is_refused(int it) {
     if (!begun) return 0;
@@ -163,11 +161,26 @@ def refuse_memory(runs, words, data):
                   lambda number: end_of_memory(runs.run(words, data, 'memory %d%s' % (number, later)), whole))
 
 
-def closed_front(feed):
-    """The lines up to the last one that closes a batch. No batch of the example has 100 updates."""
-    lines = feed.split(b'\n')[:-1]
-    closing = [at + 1 for at, line in enumerate(lines) if not line.strip() or b'"status"' in line]
-    return b''.join(line + b'\n' for line in lines[:closing[-1] if closing else 0])
+def streamed(front):
+    """What `stream` says of a front of the feed: of the lines up to the last that closes a batch. None has 100 updates."""
+    lines = front.split(b'\n')[:-1]
+    while lines and b'"key"' in lines[-1]:
+        lines.pop()
+    return output_of(['stream'], b''.join(line + b'\n' for line in lines))
+
+
+def followed(front):
+    """What `follow` says of a front of the frames."""
+    return subprocess.run([PROGRAM, 'follow'], input=front, capture_output=True, timeout=LIMIT).stdout
+
+
+def reported(front):
+    """What `sim` says of a front of the script: of its whole lines, but neither of a batch that they leave open nor of the end."""
+    lines = front.split(b'\n')[:-1]
+    while lines and b'"key"' in lines[-1]:
+        lines.pop()
+    report = output_of(['sim'], b''.join(line + b'\n' for line in lines))
+    return report[:report.rindex(b'end ')]
 
 
 def fail_devices(runs, words, data, front_of):
@@ -267,6 +280,13 @@ def reached(client, server):
     return False
 
 
+def give(server, part):
+    """Writes a part of the feed to a server, which may have ended."""
+    with contextlib.suppress(BrokenPipeError):
+        server.stdin.write(part)
+        server.stdin.flush()
+
+
 def serve_refused(runs, refuse, feed, **more):
     """A server that is refused something, and a client that dials until one connection stood. What both came to."""
     half = feed.index(b'\n\n') + 2
@@ -274,17 +294,14 @@ def serve_refused(runs, refuse, feed, **more):
     server = subprocess.Popen([PROGRAM, 'serve', '--at', '127.0.0.1:%d' % port, '--workers', '2'], stdin=subprocess.PIPE,
                               stderr=subprocess.PIPE, env=runs.environment(refuse, **more))
     limit = time.monotonic() + 3
-    try:
-        server.stdin.write(feed[:half])
-        server.stdin.flush()
+    give(server, feed[:half])
+    client = Client(port)
+    while not reached(client, server) and client.process.poll() == 7 and server.poll() is None and time.monotonic() < limit:
+        time.sleep(0.02)
         client = Client(port)
-        while not reached(client, server) and client.process.poll() == 7 and server.poll() is None and time.monotonic() < limit:
-            time.sleep(0.02)
-            client = Client(port)
-        server.stdin.write(feed[half:])
+    give(server, feed[half:])
+    with contextlib.suppress(BrokenPipeError):
         server.stdin.close()
-    except BrokenPipeError:
-        pass
     try:
         status = server.wait(LIMIT)
         ended, note, last = client.ended()
@@ -332,22 +349,13 @@ def main():
         runs = Runs(made(work), work)
         for words, data in (['stream'], feed), (['follow'], frames), (['follow', '--brief'], frames), (['sim'], script):
             refuse_memory(runs, words, data)
-        fail_devices(runs, ['stream'], feed, lambda front: output_of(['stream'], closed_front(front)))
-        fail_devices(runs, ['follow'], frames, lambda front: followed(front))
-        fail_devices(runs, ['sim'], script, lambda front: output_of(['sim'], closed_lines(front)))
+        fail_devices(runs, ['stream'], feed, streamed)
+        fail_devices(runs, ['follow'], frames, followed)
+        fail_devices(runs, ['sim'], script, reported)
         meet_devices(runs, feed, frames, script)
         refuse_server(runs, feed)
     print('%d refused, %d ended otherwise, after %.0f s' % (runs.tried, runs.wrong, time.monotonic() - begin))
     sys.exit(1 if runs.wrong else 0)
-
-
-def followed(front):
-    """What `follow` prints of whole frames."""
-    return subprocess.run([PROGRAM, 'follow'], input=front, stdout=subprocess.PIPE, timeout=LIMIT).stdout
-
-
-def closed_lines(front):
-    return front[:front.rfind(b'\n') + 1]
 
 
 main()
