@@ -24,19 +24,13 @@ def free_port():
         return probe.getsockname()[1]
 
 
-def dial(port, seconds=10, room=None):
-    """A connection to a server that may not listen yet, with so much room for bytes that aren't read."""
+def dial(port, seconds=10):
+    """A connection to a server that may not listen yet."""
     limit = time.monotonic() + seconds
     while True:
-        sock = socket.socket()
-        if room:
-            sock.setsockopt(socket.SOL_SOCKET, socket.SO_RCVBUF, room)
-        sock.settimeout(seconds)
         try:
-            sock.connect(('127.0.0.1', port))
-            return sock
+            return socket.create_connection(('127.0.0.1', port), seconds)
         except ConnectionRefusedError:
-            sock.close()
             if time.monotonic() > limit:
                 raise
             time.sleep(0.05)
