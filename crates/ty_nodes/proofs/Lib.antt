@@ -1,0 +1,4 @@
+mod Blocks
+mod Crossing
+mod Pairs
+mod Walking

@@ -1,0 +1,2 @@
+-- Words that only the crate's own clauses reach.
+pub mod Blocks
