@@ -1,5 +1,5 @@
 -- A block has a box's two fields and owns what a box at its address owns, so the kit's steps on a box serve for it. Assumes `Logic`.
-use Rattle.ty_nodes.proofs.Walking.{◌≡◌, ℕ, List, [], ◌∷◌, ◌++◌, ◌∙◌, refl, ap, full_share, Val, vstruct, of_list, id⊢, fdead, ‵, ◌⊛◌, later, ◌$◌, ◌∵◌, !, qed, move, drop, split, fsplit, fjoin, fpick, feq_l, use1, use2, updating, await, now, done, RattleType, RawPtr, Tuple, Ptr, block_ptr, ptr_val, nothing, ent, sep, sem, Lft, lent_back}
+use Rattle.ty_nodes.proofs.Walking.{◌≡◌, ℕ, List, [], ◌∷◌, ◌++◌, ◌∙◌, ap, full_share, Val, vstruct, of_list, id⊢, fdead, ‵, ◌⊛◌, later, ◌$◌, ◌∵◌, !, qed, move, drop, split, fsplit, fjoin, fpick, feq_l, use1, use2, updating, await, now, done, RattleType, RawPtr, Tuple, Ptr, block_ptr, ptr_val, ent, sep, sem, Lft, lent_back}
 use seplogic.Ra.Ura.{Ura}
 use mir.Syntax.{Dict, impl, tnil, dnil}
 use mir.Raw.{raw as bare}
@@ -15,7 +15,7 @@ use Rattle.std.specs.contracts.alloc.Global as Heap
 use Rattle.std.specs.contracts.impls.GlobalAllocator.TheImpl.{ghosts}
 use Rattle.std_heap.proofs.Global.TheLaws.{the_row_laws as heap_laws}
 use Rattle.ty_nodes.proofs.Pairs.{both}
-use Rattle.ty_nodes.specs.steps.Blocks.{all_deeds, all_blocks, deed, owned_block, IsFirst}
+use Rattle.ty_nodes.specs.steps.Blocks.{all_deeds, all_blocks, IsFirst}
 use Rattle.ty_nodes.specs.contracts.block.Block as block
 
 -- the types of a block: its value's, and its allocator's

@@ -1,4 +1,11 @@
 mod Blocks
+mod Chains
 mod Crossing
+mod Histories
 mod Pairs
+mod Prefixes
+mod Rights
+mod Rows
+mod Rules
+mod Steps
 mod Walking

@@ -24,17 +24,19 @@ lent R life p x = lent_at R p x (life ∷ [])
 abbrev pub deed : (R : RattleType) → ℕ → Ptr → R.Denot → Fml
 deed R life p x = flent (life ∷ []) (owned_block R p x)
 
+-- one thing for each of a row of values with their addresses
+abbrev pub all_of : {X : Type 0} → (Ptr → X → Fml) → List (Ptr × X) → Fml
+all_of F [] = ftrue
+all_of F (l ∷ ls) = fsep (F l.0 l.1) (all_of F ls)
+
 abbrev pub all_lent : (R : RattleType) → ℕ → List (Ptr × R.Denot) → Fml
-all_lent R life [] = ftrue
-all_lent R life (l ∷ ls) = fsep (lent R life l.0 l.1) (all_lent R life ls)
+all_lent R life = all_of (lent R life)
 
 abbrev pub all_deeds : (R : RattleType) → ℕ → List (Ptr × R.Denot) → Fml
-all_deeds R life [] = ftrue
-all_deeds R life (l ∷ ls) = fsep (deed R life l.0 l.1) (all_deeds R life ls)
+all_deeds R life = all_of (deed R life)
 
 abbrev pub all_blocks : (R : RattleType) → List (Ptr × R.Denot) → Fml
-all_blocks R [] = ftrue
-all_blocks R (l ∷ ls) = fsep (owned_block R l.0 l.1) (all_blocks R ls)
+all_blocks R = all_of (owned_block R)
 
 -- the first of these blocks lies at p
 abbrev pub IsFirst : {X : Type 0} → Ptr → List (Ptr × X) → Type 0

@@ -1,5 +1,5 @@
 -- `fill` writes through the block's pointer.
-use Rattle.ty_nodes.proofs.Walking.{◌≡◌, List, [], ◌∷◌, ◌++◌, refl, sym, subst, Val, a_type, dcons, dnil, inst_fn, full_share, SProp, ent, emp, id⊢, WpFn, tables, ‵, raw, ◌⊛◌, some, given, at_ret, ◌$◌, ◌∵◌, !, qed, by, move, keep, drop, split, join, fsplit, fjoin, pick, learn, suffices, use0, use1, use2, stop, fld, of_opd, no_more, and_then, first, blocks, exec, returns, enter, alloc_all, pass_all, free_all, look_at, get, get_in, through, sets, env, agg, sub, whole, fact, fact_i, no, RattleType, owns, types_at, plain, nothing, alive, bounded, Stays, stay_dropped, Goes-dropped, walk_of, proved_at}
+use Rattle.ty_nodes.proofs.Walking.{◌≡◌, List, [], ◌∷◌, ◌++◌, refl, sym, subst, Val, a_type, dcons, dnil, inst_fn, full_share, SProp, ent, emp, id⊢, WpFn, tables, ‵, raw, ◌⊛◌, some, given, at_ret, ◌$◌, ◌∵◌, !, qed, by, move, keep, drop, split, fsplit, fjoin, pick, learn, suffices, use0, use1, use2, stop, fld, of_opd, no_more, and_then, first, blocks, exec, returns, enter, alloc_all, pass_all, free_all, look_at, get, get_in, through, sets, env, agg, sub, whole, fact, fact_i, no, owns, types_at, plain, nothing, alive, bounded, Stays, stay_dropped, Goes-dropped, walk_of, proved_at}
 use base.Fml.{fat}
 use types.Run.{assigns_last, store}
 use denote.Memory.{part_at}

@@ -1,5 +1,5 @@
 -- `into_box` makes a box of the block's parts.
-use Rattle.ty_nodes.proofs.Walking.{◌≡◌, List, [], ◌∷◌, ◌++◌, refl, sym, ap, subst, Val, vptr, a_type, dcons, dnil, inst_fn, SProp, ent, id⊢, flft, ftrue, WpFn, tables, ‵, raw, ◌⊛◌, some, later, at_ret, ◌$◌, ◌∵◌, !, qed, by, move, keep, drop, split, split3, join, fsplit, fjoin, pick, suffices, rewrite, use1, await, feq_i, stop, fld, of_opd, no_more, and_then, first, blocks, exec, returns, enter, alloc_all, pass_all, free_all, look_at, get, get_in, sets, env, sub, whole, fact, ◌⊑◌, no, RattleType, owns, types_at, plain, block_ptr, nothing, only, bounded, layout, Stays, stay_dropped, walk_of, proved_at, fm}
+use Rattle.ty_nodes.proofs.Walking.{◌≡◌, List, [], ◌∷◌, ◌++◌, refl, sym, ap, subst, Val, vptr, a_type, dcons, dnil, inst_fn, SProp, ent, id⊢, flft, ftrue, WpFn, tables, ‵, raw, ◌⊛◌, some, later, at_ret, ◌$◌, ◌∵◌, !, qed, by, move, keep, drop, split, split3, join, fsplit, fjoin, pick, suffices, rewrite, use1, await, feq_i, stop, fld, of_opd, no_more, and_then, first, blocks, exec, returns, enter, alloc_all, pass_all, free_all, look_at, get, get_in, sets, env, sub, whole, fact, ◌⊑◌, no, owns, types_at, plain, block_ptr, nothing, only, bounded, layout, Stays, stay_dropped, walk_of, proved_at, fm}
 use types.ByLocal.{lands_last}
 use denote.Triple.Clauses.{Lasts, lasts}
 use denote.Triple.Spec.{triple_of}

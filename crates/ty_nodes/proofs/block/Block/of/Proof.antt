@@ -1,5 +1,5 @@
 -- `of` takes the box apart, and keeps its parts.
-use Rattle.ty_nodes.proofs.Walking.{◌≡◌, List, [], ◌∷◌, ◌++◌, refl, sym, ap, ◌∙◌, subst, Val, vptr, a_type, dcons, dnil, inst_fn, SProp, ent, emp, id⊢, flft, ftrue, fsep, WpFn, tables, ‵, raw, ◌⊛◌, some, later, ◌$◌, ◌∵◌, !, qed, by, move, keep, drop, split, split3, join, fsplit, fjoin, pick, suffices, rewrite, use0, use1, use2, await, feq_i, stop, fld, of_opd, no_more, and_then, returns, enter, alloc_all, pass_all, free_all, look_at, get, get_in, sets, agg, sub, whole, fact, fact_i, no, RattleType, RawPtr, owns, types_at, plain, Ptr, block_ptr, null_ptr, ptr_val, in_a_block, nothing, heard, only, Tuple, bounded, layout, Stays, stay_dropped, walk_of, proved_at, fm}
+use Rattle.ty_nodes.proofs.Walking.{◌≡◌, List, [], ◌∷◌, ◌++◌, refl, sym, ap, ◌∙◌, subst, Val, vptr, a_type, dcons, dnil, inst_fn, SProp, ent, emp, id⊢, flft, ftrue, fsep, WpFn, tables, ‵, raw, ◌⊛◌, some, later, ◌$◌, ◌∵◌, !, qed, by, move, keep, drop, split, split3, join, fsplit, fjoin, pick, suffices, rewrite, use0, use1, use2, await, feq_i, stop, fld, of_opd, no_more, and_then, returns, enter, alloc_all, pass_all, free_all, look_at, get, get_in, sets, agg, sub, whole, fact, fact_i, no, RawPtr, owns, types_at, plain, Ptr, null_ptr, ptr_val, in_a_block, nothing, heard, only, Tuple, bounded, layout, Stays, stay_dropped, walk_of, proved_at, fm}
 use mir.Raw.{raw as bare}
 use types.ByLocal.{lands_as}
 use base.Logic.{never, fst∗}

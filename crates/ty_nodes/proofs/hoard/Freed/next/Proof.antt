@@ -1,5 +1,5 @@
 -- `next` makes a block of the first address and the right to what lies there.
-use Rattle.ty_nodes.proofs.Walking.{◌≡◌, List, [], ◌∷◌, refl, Val, vptr, a_type, inst_fn, SProp, emp, id⊢, tables, ‵, raw, ◌⊛◌, ◌$◌, ◌∵◌, !, qed, by, move, keep, split, fsplit, fjoin, heard, rewrite, use0, use1, use2, no_more, and_then, returns, enter, alloc_all, pass_all, free_all, look_at, get, sets, agg, WpFn, Ptr, block_ptr, null_ptr, ptr_val, in_a_block, RawPtr, RattleType, owns, types_at, yes, no, plain, nothing, alive, fact, fact_i, ◌⊑◌, Stays, stay_dropped, Goes-dropped, walk_of, proved, token, Token, token_told, token_made, ends, param, layouts, Tuple}
+use Rattle.ty_nodes.proofs.Walking.{List, [], ◌∷◌, refl, Val, vptr, a_type, inst_fn, SProp, emp, id⊢, tables, ‵, raw, ◌⊛◌, ◌$◌, ◌∵◌, !, qed, by, move, keep, split, fsplit, fjoin, heard, rewrite, use0, use1, use2, no_more, and_then, returns, enter, alloc_all, pass_all, free_all, look_at, get, sets, agg, WpFn, Ptr, block_ptr, null_ptr, ptr_val, in_a_block, RawPtr, RattleType, owns, types_at, yes, no, plain, nothing, alive, fact, fact_i, ◌⊑◌, Stays, stay_dropped, Goes-dropped, walk_of, proved, token, Token, token_told, token_made, ends, param, layouts, Tuple}
 use mir.Raw.{raw as bare}
 use base.Logic.{never, fst∗}
 use types.Logic.{sem}
@@ -11,7 +11,7 @@ use Rattle.std.proofs.Handle.{heap_val, heap_Tells}
 use Rattle.std.specs.contracts.alloc.Global as Heap
 use Rattle.std.specs.contracts.impls.GlobalAllocator.TheImpl.{ghosts}
 use Rattle.ty_nodes.proofs.Pairs.{both, paired}
-use Rattle.ty_nodes.proofs.Blocks.{heap_form, Block, block_in, first_is}
+use Rattle.ty_nodes.proofs.Blocks.{heap_form, block_in, first_is}
 use Rattle.ty_nodes.specs.steps.Blocks.{heap, owned_block, all_blocks, IsFirst}
 use Rattle.ty_nodes.specs.contracts.block.Block as block
 use Rattle.ty_nodes.specs.contracts.hoard.Freed as Freed

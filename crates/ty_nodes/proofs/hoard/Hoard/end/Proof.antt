@@ -4,7 +4,6 @@ use Rattle.ty_nodes.proofs.Blocks.{all_back}
 use Rattle.ty_nodes.specs.steps.Blocks.{all_deeds, all_blocks}
 use Rattle.ty_nodes.specs.contracts.hoard.Hoard as Hoard
 use Rattle.ty_nodes.specs.contracts.hoard.Deeds as Deeds
-use Rattle.ty_nodes.specs.contracts.hoard.Freed as Freed
 use Rattle.ty_nodes.specs.contracts.hoard.Hoard.end.{ended, clauses}
 use Rattle.ty_nodes.specs.contracts.hoard.Hoard.end.Key.{name as #self}
 use Rattle.ty_nodes.proofs.hoard.Hoard.end.Statement.{statement}
