@@ -9,3 +9,4 @@ pub mod Talks
 pub mod Told
 pub mod Books
 pub mod Once
+pub mod Bounds

@@ -1,5 +1,5 @@
 -- What a `Rebuild` stands for.
-use Rattle.std.specs.Prelude.{◌≡◌, ℕ, Bool, true, false, List, ◌++◌, Option, None, Some}
+use Rattle.std.specs.Prelude.{◌≡◌, ℕ, Bool, true, false, List, ◌++◌, length, Option, None, Some}
 use Rattle.ty_base.specs.Feed.{Pairs}
 use Rattle.ty_base.specs.declared.status.Status.{Status}
 use Rattle.ty_wire.specs.Wire.{frames}
@@ -68,6 +68,14 @@ pub record RebuildStands (r : RebuildHeld) (before : List (List ℕ)) (bytes : L
   pub held_before : Option Rebuilt
   pub holds : Holds before held_before
   pub held_is : r.held ≡ last_held held_before (ats ms)
+
+-- how many bytes the unfinished frame has so far: none after a fault
+abbrev pub unfinished_by : Option StreamFault → FramesHeld → ℕ
+unfinished_by None unread = length unread.rest
+unfinished_by (Some f) unread = 0
+
+abbrev pub unfinished : RebuildHeld → ℕ
+unfinished r = unfinished_by r.fault r.unread
 
 -- what a piece brings beyond the bytes before it: more good messages, what is rebuilt at their
 -- crumb ends, and a pong for each ping

@@ -1,5 +1,5 @@
 // A client's rebuilding over connections, one after another, each in any pieces.
-ghost use Rattle.std.specs.Prelude.{◌≡◌, ◌≤◌, ◌++◌, ◌∷◌, List, ℕ, Option, [], length, drop, true, false, None, Some, option_map, IfOk, OnSome, OnOk, OnErr};
+ghost use Rattle.std.specs.Prelude.{◌≡◌, ◌+◌, ◌≤◌, ◌++◌, ◌∷◌, List, ℕ, Option, [], length, drop, true, false, None, Some, option_map, IfOk, OnSome, OnOk, OnErr};
 ghost use Rattle.std.specs.Option.{option_copied, option_or};
 ghost use Rattle.ty_wire.specs.Wire.{frame};
 ghost use Rattle.ty_wire.specs.Stream.{Reads};
@@ -7,7 +7,7 @@ ghost use Rattle.ty_wire.specs.declared.message.Msg.{Msg as Message};
 ghost use Rattle.ty_wire.specs.declared.message.Msg.TheVariants.{ClientHello};
 ghost use Rattle.ty_client.specs.Rebuilt.{last_held};
 ghost use Rattle.ty_client.specs.Heard.{Holds};
-ghost use Rattle.ty_client.specs.Rebuild.{HasHistory, ConnectionStands, RebuildStands, Brought, BroughtHere, IsGoodSoFar};
+ghost use Rattle.ty_client.specs.Rebuild.{HasHistory, ConnectionStands, RebuildStands, Brought, BroughtHere, IsGoodSoFar, unfinished};
 ghost use Rattle.ty_client.specs.steps.Stage.{IsHeard};
 ghost use Rattle.ty_client.specs.declared.fault.StreamFault.{StreamFault as Fault};
 
@@ -102,7 +102,8 @@ impl Rebuild {
     /// Takes the next bytes of the connection, in any pieces. It gives what is rebuilt at each
     /// crumb end that comes, and the first fault of all bytes of the connection so far. After a
     /// fault each call gives that fault and nothing else, and after want of memory each call
-    /// answers want of memory, until `lost`.
+    /// answers want of memory, until `lost`. What is queued grows by no more bytes than the frames
+    /// have that end in these: `left` and these bytes.
     pub fn feed(&mut self, alloc: Global, bytes: &[u8]) -> Result<Heard, NoMemory>
         ensures heard { IfOk result (λ h. (before : List (List ℕ)) (so_far : List ℕ) (ms : List Message)
             → RebuildStands self.old before so_far ms
@@ -110,6 +111,9 @@ impl Rebuild {
         ensures here { IfOk result (λ h. (so_far : List ℕ) (ms : List Message)
             → ConnectionStands self.old so_far ms
             → BroughtHere self.old self.new so_far bytes.now ms h.ats) }
+        ensures up { OnOk result ((so_far : List ℕ) (ms : List Message)
+            → ConnectionStands self.old so_far ms
+            → length self.new.up ≤ length self.old.up + unfinished self.old + length bytes.now) }
         ensures held { IfOk result (λ h. self.new.held ≡ last_held self.old.held h.ats) }
         ensures fault { IfOk result (λ h. h.fault ≡ self.new.fault) }
         ensures stays { IfOk result (λ h. (f : Fault) → self.old.fault ≡ Some f
@@ -179,6 +183,7 @@ impl Rebuild {
 
     /// How many bytes the unfinished frame has so far. After a fault there are none.
     pub fn left(&self) -> u64
+        ensures held { result ≡ unfinished self.now }
         ensures rest { (before : List (List ℕ)) (bytes rest : List ℕ) (ms : List Message)
             → RebuildStands self.now before bytes ms
             → self.now.fault ≡ None → Reads bytes ms rest → result ≡ length rest }

@@ -8,5 +8,5 @@ mod successor;
 
 pub use crumb::Crumb;
 pub use laws::the_book_grows_by_the_next_batch;
-pub use snapshots::snapshot;
+pub use snapshots::{new_delta, snapshot};
 pub use successor::{Followed, Made, next_crumb, next_crumb_in};

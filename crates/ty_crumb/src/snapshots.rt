@@ -20,8 +20,8 @@ pub fn snapshot(alloc: Global, crumb: &Crumb) -> Result<Deltas, NoMemory>
     Ok(deltas)
 }
 
-// A pair as a delta.
-fn new_delta(alloc: Global, key: &Text, value: &Text) -> Result<Delta, NoMemory>
+/// A pair of a breadcrumb's map as a delta of its snapshot.
+pub fn new_delta(alloc: Global, key: &Text, value: &Text) -> Result<Delta, NoMemory>
     ensures { IfOk result (λ d. d ≡ added key.now value.now) }
 {
     Ok(Delta {

@@ -17,7 +17,8 @@ use Rattle.ty_wire.proofs.Read.{both}
 use Rattle.ty_group.specs.declared.mark.Mark.{Mark}
 use Rattle.ty_group.specs.declared.mark.Front.{Front}
 use Rattle.ty_group.specs.steps.Pieces.{piece, delta_pieces, mark_of, kvs_body, told_in, AreEncoded}
-use Rattle.ty_group.specs.steps.Written.{framed, IsFront, IsWritten, Keeps}
+use Rattle.ty_group.specs.Written.{IsWritten, Keeps}
+use Rattle.ty_group.specs.steps.Written.{framed, IsFront}
 use Rattle.ty_group.proofs.Pieces.{apart, with_comma, message_text, rest, told, encoded}
 
 -- the delta of a mark

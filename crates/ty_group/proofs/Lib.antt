@@ -1,3 +1,4 @@
+pub mod Filled
 pub mod Fronts
 pub mod Pieces
 pub mod Texts

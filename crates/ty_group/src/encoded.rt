@@ -4,7 +4,7 @@ ghost use Rattle.std.specs.List.{AllByRecursion};
 ghost use Rattle.ty_base.specs.Limits.{deltas_fit};
 ghost use Rattle.ty_wire.specs.Wire.{IsWire, frames};
 ghost use Rattle.ty_wire.specs.Talk.{group_messages as group};
-ghost use Rattle.ty_group.specs.steps.Written.{Keeps};
+ghost use Rattle.ty_group.specs.Written.{Keeps};
 
 use crate::delta::{append_piece, weight_of};
 use crate::mark::Mark;

@@ -3,9 +3,11 @@
 
 mod delta;
 mod encoded;
+mod filling;
 mod group;
 mod mark;
 mod messages;
 
 pub use encoded::{Encoded, write_encoded};
+pub use filling::Filling;
 pub use group::Group;

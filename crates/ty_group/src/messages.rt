@@ -4,7 +4,8 @@ ghost use Rattle.ty_base.specs.declared.limits.TheConstants.{BODY_BYTES};
 ghost use Rattle.ty_wire.specs.Wire.{frames};
 ghost use Rattle.ty_wire.specs.Talk.{kvs_messages};
 ghost use Rattle.ty_group.specs.steps.Pieces.{kvs_body, told_in, AreEncoded};
-ghost use Rattle.ty_group.specs.steps.Written.{framed, IsFront, IsWritten, Keeps};
+ghost use Rattle.ty_group.specs.Written.{IsWritten, Keeps};
+ghost use Rattle.ty_group.specs.steps.Written.{framed, IsFront};
 
 use crate::mark::{Front, Mark};
 use ty_base::{MESSAGE_DELTAS, NoMemory, VALUE_BYTES};
@@ -84,7 +85,7 @@ fn front_of(text: &[u8], marks: &[Mark]) -> Front
 }
 
 // Whether a message of so many deltas, with so many bytes, takes the next one.
-fn is_taken(count: usize, weight: usize, next: usize) -> bool
+pub(crate) fn is_taken(count: usize, weight: usize, next: usize) -> bool
     ensures { result ≡ (nat_lt count MESSAGE_DELTAS && nat_le (weight + next) VALUE_BYTES) }
 {
     count < MESSAGE_DELTAS && weight <= VALUE_BYTES && next <= VALUE_BYTES - weight

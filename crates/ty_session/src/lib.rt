@@ -6,6 +6,7 @@ mod client;
 mod drops;
 mod group;
 mod laws;
+mod opening;
 mod phase;
 mod queue;
 mod reason;

@@ -7,10 +7,11 @@ ghost use Rattle.ty_wire.specs.declared.message.Msg.TheVariants.{Ping};
 ghost use Rattle.ty_crumb.specs.Crumbs.{world_of};
 ghost use Rattle.ty_session.specs.Story.{snapshot_bytes};
 
+use crate::opening::write_opening;
 use std::alloc::Global;
 use std::marker::Model;
 use ty_base::{Deltas, NoMemory, PIECE_BYTES, Status};
-use ty_crumb::{Crumb, snapshot};
+use ty_crumb::Crumb;
 use ty_group::{Encoded, Group, write_encoded};
 use ty_wire::{Msg, short_messages_fit, write, write_group};
 
@@ -49,8 +50,8 @@ impl Queue {
         &self.bytes[self.gone..]
     }
 
-    // Removes the first `n` bytes. Room is given up once half of it or more is of no use, so each
-    // byte is moved at most once for each that is removed.
+    // Removes the first `n` bytes. Room is given up once three quarters of it or more are of no use,
+    // so a byte is moved at most once for each three that are removed.
     pub(crate) fn remove(&mut self, n: usize)
         requires { n ≤ length self.old }
         ensures { self.new ≡ drop n self.old }
@@ -122,8 +123,8 @@ impl Queue {
     }
 }
 
-// Gives up the bytes that are gone, where they are half of all or more, and a large room once it is
-// empty.
+// Gives up the bytes that are gone, where they are three quarters of all or more, and a large room
+// once it is empty.
 fn compact(alloc: Global, bytes: &mut Vec<u8>, gone: &mut usize)
     requires { gone.old ≤ length bytes.old.items }
     ensures within { gone.new ≤ length bytes.new.items }
@@ -133,36 +134,9 @@ fn compact(alloc: Global, bytes: &mut Vec<u8>, gone: &mut usize)
     if left == 0 && bytes.capacity() > PIECE_BYTES {
         *bytes = Vec::new(alloc);
         *gone = 0;
-    } else if left <= *gone {
-        bytes.rotate_left(*gone);
+    } else if left <= *gone / 3 {
+        bytes.copy_within(*gone.., 0);
         bytes.truncate(left);
         *gone = 0;
     }
-}
-
-fn write_opening(alloc: Global, crumb: &Crumb, out: &mut Vec<u8>) -> Result<(), NoMemory>
-    ensures ok { OnOk result (out.new.items
-        ≡ out.old.items ++ snapshot_bytes (world_of crumb.now) crumb.now.number) }
-    ensures err { OnErr result (out.new.items ≡ out.old.items) }
-{
-    let len = out.len();
-    match append_opening(alloc, crumb, out) {
-        Ok(()) => Ok(()),
-        Err(e) => {
-            out.truncate(len);
-            Err(e)
-        }
-    }
-}
-
-fn append_opening(alloc: Global, crumb: &Crumb, out: &mut Vec<u8>) -> Result<(), NoMemory>
-    ensures ok { OnOk result (out.new.items
-        ≡ out.old.items ++ snapshot_bytes (world_of crumb.now) crumb.now.number) }
-    ensures err { OnErr result ((more : List ℕ) × (out.new.items ≡ out.old.items ++ more)) }
-{
-    short_messages_fit();
-    let deltas = snapshot(alloc, crumb)?;
-    write(alloc, &Msg::ServerHello { version: 1 }, out)?;
-    write_group(alloc, &deltas, Some(crumb.status), crumb.number, out)?;
-    Ok(())
 }

@@ -1,10 +1,8 @@
--- How much of a list of deltas is written.
+-- For private clauses: the first message of a list of deltas.
 use Rattle.std.specs.Prelude.{◌≡◌, ℕ, ◌<◌, ◌≤◌, List, ◌∷◌, ◌++◌, length, take, drop}
 use Rattle.std.specs.Int.{to_be_bytes, w32}
 use Rattle.ty_base.specs.declared.delta.Delta.{Delta}
-use Rattle.ty_wire.specs.Wire.{frames}
 use Rattle.ty_wire.specs.Cut.{cut_deltas}
-use Rattle.ty_wire.specs.Talk.{kvs_messages}
 use Rattle.ty_group.specs.declared.mark.Front.{Front}
 use Rattle.ty_group.specs.steps.Pieces.{delta_pieces}
 
@@ -18,10 +16,3 @@ pub record IsFront (ds : List Delta) (front : Front) : Type 0 where
   pub within : front.count ≤ length ds
   pub len : front.len ≡ length (delta_pieces (take front.count ds))
   pub cut : cut_deltas ds ≡ take front.count ds ∷ cut_deltas (drop front.count ds)
-
--- what is written and what is owed for the rest is all
-abbrev pub IsWritten : List Delta → List Delta → List ℕ → List ℕ → Type 0
-IsWritten ds rest before now = now ++ frames (kvs_messages rest) ≡ before ++ frames (kvs_messages ds)
-
-abbrev pub Keeps : List ℕ → List ℕ → Type 0
-Keeps before now = (more : List ℕ) × (now ≡ before ++ more)

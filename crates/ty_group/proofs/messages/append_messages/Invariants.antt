@@ -1,6 +1,6 @@
 use Rattle.std.proofs.Common.{length}
 use Rattle.ty_group.specs.steps.Pieces.{told_in, AreEncoded}
-use Rattle.ty_group.specs.steps.Written.{IsWritten, Keeps}
+use Rattle.ty_group.specs.Written.{IsWritten, Keeps}
 use Rattle.ty_group.proofs.messages.append_messages.Given as goal
 
 abbrev pub invariant-loop-rest : goal.invariant-loop-rest

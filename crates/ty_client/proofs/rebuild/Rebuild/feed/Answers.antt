@@ -1,6 +1,7 @@
 use Rattle.std.proofs.Common.{◌≡◌, refl, sym, ap, length, ◌∙◌}
 use Rattle.std.specs.Prelude.{None}
 use Rattle.ty_client.proofs.Connections.{brought_from, brought_all, nothing_from, none_of, none_left}
+use Rattle.ty_client.proofs.Bounds.{grows_within, stays_within}
 use Rattle.ty_client.proofs.rebuild.Rebuild.feed.Goals as goal
 
 pub returns-then-is_some-clause-heard : goal.returns-then-is_some-clause-heard
@@ -26,3 +27,11 @@ returns-in-Ok-clause-here c = λ so_far ms s.
 
 pub returns-then-is_some-clause-held : goal.returns-then-is_some-clause-held
 returns-then-is_some-clause-held c = none_left _ c.new.result (ap length c.new.ensures)
+
+pub returns-then-is_some-clause-up : goal.returns-then-is_some-clause-up
+returns-then-is_some-clause-up c = λ so_far ms s. stays_within c.args.self.now c.args.bytes.now
+
+pub returns-in-Ok-clause-up : goal.returns-in-Ok-clause-up
+returns-in-Ok-clause-up c = λ so_far ms s.
+    grows_within _ c.args.self.now _ so_far c.args.bytes.now ms c.in-Ok.heard.ats c.self.view_is (none_of c.self.inside.fault (sym c.is_some.ensures ∙ c.if-is_some.false)) s
+    (returns-in-Ok-clause-here c so_far ms s)

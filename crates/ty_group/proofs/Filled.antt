@@ -1,0 +1,67 @@
+-- A message that is being filled, delta by delta.
+use Rattle.std.proofs.Common.{◌≡◌, ℕ, ◌+◌, ◌<◌, true, false, List, [], ◌∷◌, ◌++◌, length, map, refl, sym, ap, subst, ◌∙◌, arith, append_assoc, append-nil}
+use Rattle.std.specs.List.{AllByRecursion, sum_by}
+use Rattle.std.proofs.lemmas.List.Sums.{sum_by_push}
+use Rattle.std.proofs.lemmas.List.Folds.{list_all-append}
+use Rattle.ty_base.specs.declared.limits.TheConstants.{VALUE_BYTES}
+use Rattle.ty_base.specs.declared.delta.Delta.{Delta}
+use Rattle.ty_base.specs.Passing.{delta_passes}
+use Rattle.ty_base.specs.Limits.{key_fits, value_fits}
+use Rattle.ty_wire.specs.Wire.{frame, frames, message_fits}
+use Rattle.ty_wire.specs.Cut.{weight, takes, cut_on, cut_deltas}
+use Rattle.ty_wire.specs.Talk.{kvs_messages}
+use Rattle.ty_wire.specs.declared.message.Msg.TheVariants.{Kvs}
+use Rattle.ty_wire.proofs.Parts.{goes_on, all-fit, Fits, both_of}
+use Rattle.ty_group.specs.Written.{IsWritten}
+use Rattle.ty_group.specs.steps.Filled.{IsOpen, IsFilled, has_place}
+
+pub none : IsFilled [] 0
+none = record { limits = refl; heavy = refl; open_to = λ rest. refl }
+
+-- ---- one more
+
+more_open : (e d : Delta) (ds : List Delta) → takes (e ∷ ds) d ≡ true → IsOpen (e ∷ ds) → IsOpen (e ∷ (ds ++ d ∷ []))
+more_open e d ds t o = λ rest. ap cut_deltas (append_assoc (e ∷ ds) (d ∷ []) rest) ∙ o (d ∷ rest) ∙ goes_on (e ∷ ds) rest d t
+
+added_open : (ds : List Delta) (d : Delta) → has_place ds d ≡ true → IsOpen ds → IsOpen (ds ++ d ∷ [])
+added_open [] d t o = λ rest. refl
+added_open (e ∷ ds) d t o = more_open e d ds t o
+
+pub added : (ds : List Delta) (d : Delta) (load more : ℕ) → more ≡ weight d → delta_passes key_fits value_fits d ≡ true → has_place ds d ≡ true → IsFilled ds load → IsFilled (ds ++ d ∷ []) (load + more)
+added ds d load more m h t f = record {
+  limits = list_all-append (delta_passes key_fits value_fits) ds (d ∷ []) ∙ rw (f.limits, h) refl;
+  heavy = ap (λ (k : ℕ). k + more) f.heavy ∙ ap (λ (k : ℕ). sum_by weight ds + k) m ∙ sym (sum_by_push weight ds d);
+  open_to = added_open ds d t f.open_to;
+}
+
+-- ---- full
+
+whole : (e : Delta) (ds : List Delta) → IsOpen (e ∷ ds) → cut_deltas (e ∷ ds) ≡ (e ∷ ds) ∷ []
+unfolding cut_on
+whole e ds o = ap cut_deltas (sym (append-nil (e ∷ ds))) ∙ o []
+
+pub full_fits : (ds : List Delta) (load : ℕ) → 0 < length ds → IsFilled ds load → message_fits (Kvs ds) ≡ true
+full_fits [] load h f = absurd (omega arith)
+full_fits (e ∷ ds) load h f = let P : List (List Delta) → Type 0 = AllByRecursion Fits in (subst P (whole e ds f.open_to) (all-fit (e ∷ ds) f.limits)).0
+
+stops : (filling ds : List Delta) (d : Delta) → takes filling d ≡ false → cut_on filling (d ∷ ds) ≡ filling ∷ cut_on (d ∷ []) ds
+unfolding cut_on
+stops filling ds d h = rw h refl
+
+-- the message is written, and the next delta begins another
+pub full_written : (ds : List Delta) (d : Delta) (rest : List Delta) (load : ℕ) (before now : List ℕ) → has_place ds d ≡ false → IsFilled ds load → now ≡ before ++ frame (Kvs ds) → IsWritten (ds ++ d ∷ rest) (d ∷ rest) before now
+full_written [] d rest load before now t f w = cc
+full_written (e ∷ ds) d rest load before now t f w =
+    ap (λ (l : List ℕ). l ++ frames (kvs_messages (d ∷ rest))) w
+    ∙ append_assoc before (frame (Kvs (e ∷ ds))) (frames (kvs_messages (d ∷ rest)))
+    ∙ ap (λ (l : List (List Delta)). before ++ frames (map Kvs l)) (sym (f.open_to (d ∷ rest) ∙ stops (e ∷ ds) rest d t))
+
+-- nothing is written, and there is one delta more
+pub kept_on : (ds : List Delta) (d : Delta) (rest : List Delta) (now : List ℕ) → IsWritten (ds ++ d ∷ rest) ((ds ++ d ∷ []) ++ rest) now now
+kept_on ds d rest now = ap (λ (l : List Delta). now ++ frames (kvs_messages l)) (append_assoc ds (d ∷ []) rest)
+
+pub all_sent : (ds : List Delta) (load : ℕ) (before now : List ℕ) → 0 < length ds → IsFilled ds load → now ≡ before ++ frame (Kvs ds) → now ≡ before ++ frames (kvs_messages ds)
+all_sent [] load before now h f w = absurd (omega arith)
+all_sent (e ∷ ds) load before now h f w =
+    w ∙ ap (λ (l : List ℕ). before ++ l) (sym (append-nil (frame (Kvs (e ∷ ds)))))
+    ∙ ap (λ (l : List (List Delta)). before ++ frames (map Kvs l)) (sym (whole e ds f.open_to))

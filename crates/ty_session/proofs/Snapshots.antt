@@ -1,0 +1,65 @@
+-- A snapshot that is written as the map is walked.
+use Rattle.std.proofs.Common.{◌≡◌, ℕ, true, List, [], ◌∷◌, ◌++◌, refl, sym, ap, ◌∙◌, append_assoc, append-nil}
+use Rattle.std.proofs.lemmas.List.{flat_map-append}
+use Rattle.std.specs.List.{list_all}
+use Rattle.ty_base.proofs.Passing.{left, right}
+use Rattle.ty_base.specs.Feed.{Pairs}
+use Rattle.ty_base.specs.Passing.{pair_passes, delta_passes}
+use Rattle.ty_base.specs.Limits.{key_fits, value_fits, pairs_fit, deltas_fit}
+use Rattle.ty_base.specs.declared.delta.Delta.{Delta}
+use Rattle.ty_wire.specs.Wire.{frame, frames}
+use Rattle.ty_wire.specs.Talk.{kvs_messages}
+use Rattle.ty_wire.specs.declared.message.Msg.{Msg}
+use Rattle.ty_crumb.specs.Crumbs.{added, snapshot_of}
+use Rattle.ty_group.specs.Written.{IsWritten, Keeps}
+
+-- what the pairs of a walk still owe
+pub record IsWalked (all : List Delta) (filling : List Delta) (rest : Pairs) (before now : List ℕ) : Type 0 where
+  pub fits : pairs_fit rest ≡ true
+  pub written : IsWritten all (filling ++ snapshot_of rest) before now
+  pub kept : Keeps before now
+
+pub keeps_all : (before : List ℕ) → Keeps before before
+keeps_all before = ([], sym (append-nil before))
+
+pub keeps_on : (before half now : List ℕ) → Keeps before half → Keeps half now → Keeps before now
+keeps_on before half now p q = (p.0 ++ q.0, q.1 ∙ ap (λ t. t ++ q.0) p.1 ∙ append_assoc before p.0 q.0)
+
+pub first_fits : (key value : List ℕ) (rest all : Pairs) → all ≡ (key, value) ∷ rest → pairs_fit all ≡ true → delta_passes key_fits value_fits (added key value) ≡ true
+first_fits key value rest all e h = left (pair_passes key_fits value_fits (key, value)) (pairs_fit rest) (sym (ap pairs_fit e) ∙ h)
+
+pub rest_fits : (key value : List ℕ) (rest all : Pairs) → all ≡ (key, value) ∷ rest → pairs_fit all ≡ true → pairs_fit rest ≡ true
+rest_fits key value rest all e h = right (pair_passes key_fits value_fits (key, value)) (pairs_fit rest) (sym (ap pairs_fit e) ∙ h)
+
+pub begun : (m : Pairs) (filling : List Delta) (before : List ℕ) → filling ≡ [] → pairs_fit m ≡ true → IsWalked (snapshot_of m) filling m before before
+begun m filling before e h = record {
+  fits = h;
+  written = ap (λ (l : List Delta). before ++ frames (kvs_messages (l ++ snapshot_of m))) e;
+  kept = keeps_all before;
+}
+
+pub walked_on : (all filling new : List Delta) (d : Delta) (key value : List ℕ) (it rest : Pairs) (before half now : List ℕ)
+    → it ≡ (key, value) ∷ rest → d ≡ added key value
+    → ((more : List Delta) → IsWritten (filling ++ d ∷ more) (new ++ more) half now) → Keeps half now
+    → IsWalked all filling it before half → IsWalked all new rest before now
+walked_on all filling new d key value it rest before half now e a p k w = record {
+  fits = rest_fits key value rest it e w.fits;
+  written =
+      p (snapshot_of rest)
+      ∙ ap (λ (x : Delta). half ++ frames (kvs_messages (filling ++ x ∷ snapshot_of rest))) a
+      ∙ sym (ap (λ (l : Pairs). half ++ frames (kvs_messages (filling ++ snapshot_of l))) e)
+      ∙ w.written;
+  kept = keeps_on before half now w.kept k;
+}
+
+pub walked : (all filling : List Delta) (it : Pairs) (before now : List ℕ) → it ≡ [] → IsWalked all filling it before now → IsWritten all filling before now
+walked all filling it before now e w =
+    ap (λ (l : List Delta). now ++ frames (kvs_messages l)) (sym (append-nil filling) ∙ sym (ap (λ (l : Pairs). filling ++ snapshot_of l) e))
+    ∙ w.written
+
+-- a list of messages behind another
+pub joined : (before half now first second : List ℕ) (ms more : List Msg) → half ≡ before ++ first → first ≡ frames ms → now ≡ half ++ second → second ≡ frames more → now ≡ before ++ frames (ms ++ more)
+joined before half now first second ms more a p b q =
+    b ∙ ap (λ (l : List ℕ). l ++ second) a ∙ append_assoc before first second
+    ∙ ap (λ (l : List ℕ). before ++ (l ++ second)) p ∙ ap (λ (l : List ℕ). before ++ (frames ms ++ l)) q
+    ∙ ap (λ (l : List ℕ). before ++ l) (sym (flat_map-append frame ms more))
