@@ -3,7 +3,6 @@ use Rattle.std.proofs.Common.{◌≡◌, ℕ, ◌+◌, ◌<◌, true, false, Lis
 use Rattle.std.specs.List.{AllByRecursion, sum_by}
 use Rattle.std.proofs.lemmas.List.Sums.{sum_by_push}
 use Rattle.std.proofs.lemmas.List.Folds.{list_all-append}
-use Rattle.ty_base.specs.declared.limits.TheConstants.{VALUE_BYTES}
 use Rattle.ty_base.specs.declared.delta.Delta.{Delta}
 use Rattle.ty_base.specs.Passing.{delta_passes}
 use Rattle.ty_base.specs.Limits.{key_fits, value_fits}
@@ -11,7 +10,7 @@ use Rattle.ty_wire.specs.Wire.{frame, frames, message_fits}
 use Rattle.ty_wire.specs.Cut.{weight, takes, cut_on, cut_deltas}
 use Rattle.ty_wire.specs.Talk.{kvs_messages}
 use Rattle.ty_wire.specs.declared.message.Msg.TheVariants.{Kvs}
-use Rattle.ty_wire.proofs.Parts.{goes_on, all-fit, Fits, both_of}
+use Rattle.ty_wire.proofs.Parts.{goes_on, all-fit, Fits}
 use Rattle.ty_group.specs.Written.{IsWritten}
 use Rattle.ty_group.specs.steps.Filled.{IsOpen, IsFilled, has_place}
 
@@ -57,11 +56,30 @@ full_written (e ∷ ds) d rest load before now t f w =
     ∙ ap (λ (l : List (List Delta)). before ++ frames (map Kvs l)) (sym (f.open_to (d ∷ rest) ∙ stops (e ∷ ds) rest d t))
 
 -- nothing is written, and there is one delta more
-pub kept_on : (ds : List Delta) (d : Delta) (rest : List Delta) (now : List ℕ) → IsWritten (ds ++ d ∷ rest) ((ds ++ d ∷ []) ++ rest) now now
+kept_on : (ds : List Delta) (d : Delta) (rest : List Delta) (now : List ℕ) → now ++ frames (kvs_messages ((ds ++ d ∷ []) ++ rest)) ≡ now ++ frames (kvs_messages (ds ++ d ∷ rest))
 kept_on ds d rest now = ap (λ (l : List Delta). now ++ frames (kvs_messages l)) (append_assoc ds (d ∷ []) rest)
 
-pub all_sent : (ds : List Delta) (load : ℕ) (before now : List ℕ) → 0 < length ds → IsFilled ds load → now ≡ before ++ frame (Kvs ds) → now ≡ before ++ frames (kvs_messages ds)
-all_sent [] load before now h f w = absurd (omega arith)
-all_sent (e ∷ ds) load before now h f w =
-    w ∙ ap (λ (l : List ℕ). before ++ l) (sym (append-nil (frame (Kvs (e ∷ ds)))))
-    ∙ ap (λ (l : List (List Delta)). before ++ frames (map Kvs l)) (sym (whole e ds f.open_to))
+pub taken_on : (ds : List Delta) (d : Delta) (rest : List Delta) (all new : List Delta) (before now : List ℕ) → new ≡ ds ++ d ∷ [] → IsWritten (all ++ d ∷ rest) (ds ++ d ∷ rest) before now → IsWritten (all ++ d ∷ rest) (new ++ rest) before now
+taken_on ds d rest all new before now e w =
+    ap (λ (l : List Delta). now ++ frames (kvs_messages (l ++ rest))) e ∙ kept_on ds d rest now ∙ w
+
+-- the message that was filled last
+pub all_sent : (v ds : List Delta) (load : ℕ) (before now : List ℕ) → v ≡ ds → 0 < length v → IsFilled v load → now ≡ before ++ frame (Kvs v) → now ≡ before ++ frames (kvs_messages ds)
+all_sent [] ds load before now same h f w = absurd (omega arith)
+all_sent (e ∷ es) ds load before now same h f w =
+    w ∙ ap (λ (l : List ℕ). before ++ l) (sym (append-nil (frame (Kvs (e ∷ es)))))
+    ∙ ap (λ (l : List (List Delta)). before ++ frames (map Kvs l)) (sym (whole e es f.open_to) ∙ ap cut_deltas same)
+
+-- the message that is full is written, where the next delta has no place
+pub begins_next : (v ds : List Delta) (load : ℕ) (before now : List ℕ) → v ≡ ds → IsFilled v load → now ≡ before ++ frame (Kvs v)
+    → (d : Delta) (rest : List Delta) → has_place ds d ≡ false → IsWritten (ds ++ d ∷ rest) (d ∷ rest) before now
+begins_next v ds load before now same f w = λ d rest t.
+    full_written ds d rest load before now t (let P : List Delta → Type 0 = λ l. IsFilled l load in subst P same f) (w ∙ ap (λ (l : List Delta). before ++ frame (Kvs l)) same)
+
+pub made_place : (ds : List Delta) (d : Delta) (new : List Delta) (before now : List ℕ) → new ≡ [] → ((rest : List Delta) → IsWritten (ds ++ d ∷ rest) (d ∷ rest) before now)
+    → (rest : List Delta) → IsWritten (ds ++ d ∷ rest) (new ++ d ∷ rest) before now
+made_place ds d new before now e w = λ rest. ap (λ (l : List Delta). now ++ frames (kvs_messages (l ++ d ∷ rest))) e ∙ w rest
+
+pub some_held : (ds : List Delta) (d : Delta) → has_place ds d ≡ false → 0 < length ds
+some_held [] d h = cc
+some_held (e ∷ ds) d h = omega arith

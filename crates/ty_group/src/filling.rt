@@ -1,11 +1,10 @@
 // A message that is being filled.
-ghost use Rattle.std.specs.Prelude.{◌≡◌, ◌<◌, ◌++◌, ◌∷◌, [], List, length, true, OnOk, OnErr};
+ghost use Rattle.std.specs.Prelude.{◌≡◌, ◌<◌, ◌++◌, ◌∷◌, [], List, length, false, true, OnOk, OnErr};
 ghost use Rattle.ty_base.specs.Passing.{delta_passes};
 ghost use Rattle.ty_base.specs.Limits.{key_fits, value_fits};
 ghost use Rattle.ty_base.specs.declared.delta.Delta.{Delta as Change};
-ghost use Rattle.ty_wire.specs.Wire.{frame, frames};
+ghost use Rattle.ty_wire.specs.Wire.{frames};
 ghost use Rattle.ty_wire.specs.Talk.{kvs_messages};
-ghost use Rattle.ty_wire.specs.declared.message.Msg.TheVariants.{Kvs};
 ghost use Rattle.ty_group.specs.Written.{IsWritten, Keeps};
 ghost use Rattle.ty_group.specs.steps.Filled.{has_place};
 
@@ -60,9 +59,7 @@ impl Filling {
             → IsWritten (self.old ++ delta ∷ rest) (self.new ++ rest) out.old.items out.new.items) }
         ensures err { OnErr result (Keeps out.old.items out.new.items) }
     {
-        if !self.has_place(&delta) {
-            self.send(alloc, out)?;
-        }
+        self.make_place(alloc, &delta, out)?;
         self.add(delta)?;
         Ok(())
     }
@@ -75,7 +72,27 @@ impl Filling {
         if self.deltas.is_empty() {
             return Ok(());
         }
-        self.send(alloc, out)
+        self.send(alloc, out)?;
+        Ok(())
+    }
+
+    // Writes the message where it has no place for the delta.
+    fn make_place(
+        &mut self,
+        alloc: Global,
+        delta: &Delta,
+        out: &mut Vec<u8>,
+    ) -> Result<(), NoMemory>
+        ensures place { OnOk result (has_place self.new delta.now ≡ true) }
+        ensures ok { OnOk result ((rest : List Change)
+            → IsWritten (self.old ++ delta.now ∷ rest) (self.new ++ delta.now ∷ rest) out.old.items out.new.items) }
+        ensures kept { Keeps out.old.items out.new.items }
+    {
+        if self.has_place(delta) {
+            return Ok(());
+        }
+        self.send(alloc, out)?;
+        Ok(())
     }
 
     fn has_place(&self, delta: &Delta) -> bool
@@ -98,11 +115,14 @@ impl Filling {
     // Writes the message, and begins the next one.
     fn send(&mut self, alloc: Global, out: &mut Vec<u8>) -> Result<(), NoMemory>
         requires { 0 < length self.old }
-        ensures ok { OnOk result (out.new.items ≡ out.old.items ++ frame (Kvs self.old)) }
+        ensures ok { OnOk result (out.new.items ≡ out.old.items ++ frames (kvs_messages self.old)) }
+        ensures begins { OnOk result ((d : Change) (rest : List Change) → has_place self.old d ≡ false
+            → IsWritten (self.old ++ d ∷ rest) (d ∷ rest) out.old.items out.new.items) }
         ensures empty { self.new ≡ [] }
         ensures err { OnErr result (out.new.items ≡ out.old.items) }
     {
         let full = mem::replace(self, Filling::new(alloc));
-        write(alloc, &Msg::Kvs(full.deltas), out)
+        write(alloc, &Msg::Kvs(full.deltas), out)?;
+        Ok(())
     }
 }
