@@ -1,17 +1,18 @@
 -- What is queued grows by no more bytes than came.
-use Rattle.std.proofs.Common.{◌≡◌, ℕ, ◌+◌, ◌≤◌, List, [], ◌∷◌, ◌++◌, length, take, refl, sym, ap, subst, ◌∙◌, arith, length-append}
-use Rattle.std.proofs.lemmas.List.{flat_map-append, length-take}
-use Rattle.std.specs.Prelude.{Option, None, Some, decimal, is_some}
+use Rattle.std.proofs.Common.{◌≡◌, ℕ, ◌+◌, ◌-◌, ◌≤◌, List, [], ◌∷◌, ◌++◌, length, sym, ap, subst, ◌∙◌, arith, length-append}
+use Rattle.std.proofs.lemmas.Grind.{flat_map-append}
+use Rattle.std.proofs.lemmas.List.{length-take}
+use Rattle.std.specs.Prelude.{Option, None, Some}
 use Rattle.ty_base.specs.declared.limits.TheConstants.{INPUT_BYTES}
-use Rattle.ty_wire.specs.Wire.{body, frame, frames}
-use Rattle.ty_wire.specs.Stream.{Reads, Breaks, Brings, FramesStandBy, FramesOpen, read_part}
+use Rattle.ty_wire.specs.Wire.{frame, frames}
+use Rattle.ty_wire.specs.Stream.{Brings, FramesStandBy, read_part}
 use Rattle.ty_wire.specs.Held.{FramesHeld}
 use Rattle.ty_wire.specs.declared.message.Msg.{Msg}
 use Rattle.ty_wire.specs.declared.message.Msg.TheVariants.{ClientHello, ServerHello, Kvs, Status, Crumb, Ping, Pong}
 use Rattle.ty_wire.specs.declared.fault.WireFault.{WireFault}
 use Rattle.ty_wire.specs.declared.fault.WireFault.TheVariants.{TooLong, NotJson, Shape, TooMuch}
 use Rattle.ty_client.specs.declared.fault.StreamFault.{StreamFault}
-use Rattle.ty_client.specs.Places.{place_fault, Judged, judged_by, judged_after, judged}
+use Rattle.ty_client.specs.Places.{place_fault, Judged, judged_by, judged_after}
 use Rattle.ty_client.specs.Rebuilt.{Rebuilt, pong_of, pongs}
 use Rattle.ty_client.specs.Heard.{Hears}
 use Rattle.ty_client.specs.Rebuild.{RebuildHeld, ConnectionStands, IsGoodUnless, IsGoodSoFar, BroughtHere, unfinished, unfinished_by}
@@ -54,8 +55,8 @@ among_part : (bytes rest : List ℕ) (ms : List Msg) → read_part bytes ≡ fra
 among_part bytes rest ms e = omega (arith, among (read_part bytes) rest ms e, length-take (INPUT_BYTES - 1) bytes)
 
 brought_within : (bytes : List ℕ) (ms : List Msg) (w : Option WireFault) → Brings bytes ms w → length (frames ms) ≤ length bytes
-brought_within bytes ms None (_, rest, reads) = among bytes rest ms reads.whole
-brought_within bytes ms (Some TooMuch) (_, rest, reads) = among_part bytes rest ms reads.whole
+brought_within bytes ms None b = among bytes b.1.0 ms b.1.1.whole
+brought_within bytes ms (Some TooMuch) b = among_part bytes b.1.0 ms b.1.1.whole
 brought_within bytes ms (Some (TooLong n len)) b = among_part bytes b.rest ms b.whole
 brought_within bytes ms (Some (NotJson n)) b = among_part bytes b.rest ms b.whole
 brought_within bytes ms (Some (Shape n)) b = among_part bytes b.rest ms b.whole
@@ -72,9 +73,16 @@ unfinished_open (Some w) u bytes ms h e = cc
 
 within_open : (old new : RebuildHeld) (bytes piece : List ℕ) (ms : List Msg) (at_ends : List Rebuilt) → IsGoodSoFar old.unread old.stage bytes ms → BroughtHere old new bytes piece ms at_ends → length new.up ≤ length old.up + length old.unread.rest + length piece
 within_open old new bytes piece ms at_ends g b =
-    omega (arith, ap length b.up, length-append old.up (frames (pongs b.more)), pongs_within b.more, frames_of ms b.more,
-      heard_within (bytes ++ piece) (ms ++ b.more) new.fault b.stands.hears, length-append bytes piece,
-      unfinished_open old.unread.fault old.unread bytes ms g.frames_stand.1 g.no_wire_fault)
+    omega (
+      arith,
+      ap length b.up,
+      length-append old.up (frames (pongs b.more)),
+      pongs_within b.more,
+      frames_of ms b.more,
+      heard_within (bytes ++ piece) (ms ++ b.more) new.fault b.stands.hears,
+      length-append bytes piece,
+      unfinished_open old.unread.fault old.unread bytes ms g.frames_stand.1 g.no_wire_fault,
+    )
 
 pub grows_within : (v old new : RebuildHeld) (bytes piece : List ℕ) (ms : List Msg) (at_ends : List Rebuilt)
     → v ≡ old → v.fault ≡ None → ConnectionStands old bytes ms → BroughtHere old new bytes piece ms at_ends

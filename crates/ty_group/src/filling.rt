@@ -51,13 +51,13 @@ impl Filling {
 
     /// Takes the next delta. Before that the message is written behind `out` where it has no place
     /// for it. Whatever comes behind, what is written then are the first of the messages into which
-    /// all deltas are cut. After want of memory some deltas may be lost, and `out` has what it had,
-    /// perhaps with more behind it.
+    /// all deltas are cut. What `out` had it has still. After want of memory some deltas may be
+    /// lost.
     pub fn push(&mut self, alloc: Global, delta: Delta, out: &mut Vec<u8>) -> Result<(), NoMemory>
         requires { delta_passes key_fits value_fits delta ≡ true }
         ensures ok { OnOk result ((rest : List Change)
             → IsWritten (self.old ++ delta ∷ rest) (self.new ++ rest) out.old.items out.new.items) }
-        ensures err { OnErr result (Keeps out.old.items out.new.items) }
+        ensures kept { Keeps out.old.items out.new.items }
     {
         self.make_place(alloc, &delta, out)?;
         self.add(delta)?;

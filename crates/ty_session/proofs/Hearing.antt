@@ -1,13 +1,12 @@
 -- Messages that are heard, one after another.
-use Rattle.std.proofs.Common.{◌≡◌, ℕ, ◌+◌, ◌<◌, ◌≤◌, ◌^◌, ◌-◌, Bool, true, false, List, [], ◌∷◌, ◌++◌, length, drop, refl, sym, ap, subst, ◌∙◌, arith, append-nil, length-append, ne_eqb, true≢false, add-one, drop-cons, get_or, min, inl, inr}
+use Rattle.std.proofs.Common.{◌≡◌, ℕ, ◌+◌, ◌<◌, ◌≤◌, ◌^◌, ◌-◌, Bool, true, false, List, [], ◌∷◌, ◌++◌, length, drop, refl, sym, ap, subst, ◌∙◌, arith, append-nil, length-append, ne_eqb, true≢false, add-one, drop-cons, get_or, min}
 use Rattle.std.specs.Prelude.{Option, None, Some, is_some, IsSome, option_map, if◌then◌else◌}
 use Rattle.std.specs.Option.{option_or}
 use Rattle.std.proofs.lemmas.List.{length-take, drop_all}
 use Rattle.ty_base.specs.declared.entry.Entry.{Entry}
 use Rattle.ty_wire.specs.Wire.{frame, frames}
 use Rattle.ty_wire.specs.Held.{FramesHeld}
-use Rattle.ty_base.specs.declared.limits.TheConstants.{BODY_BYTES}
-use Rattle.ty_wire.specs.Stream.{FramesStand, FramesStandBy, Brings, IsPart, read_part}
+use Rattle.ty_wire.specs.Stream.{FramesStand, FramesStandBy, Brings, read_part}
 use Rattle.ty_wire.proofs.Moved.{frame-len}
 use Rattle.ty_wire.specs.declared.message.Msg.{Msg}
 use Rattle.ty_wire.specs.declared.fault.WireFault.{WireFault}

@@ -1,11 +1,10 @@
 -- A snapshot that is written as the map is walked.
-use Rattle.std.proofs.Common.{◌≡◌, ℕ, true, List, [], ◌∷◌, ◌++◌, refl, sym, ap, ◌∙◌, append_assoc, append-nil}
-use Rattle.std.proofs.lemmas.List.{flat_map-append}
-use Rattle.std.specs.List.{list_all}
+use Rattle.std.proofs.Common.{◌≡◌, ℕ, true, List, [], ◌∷◌, ◌++◌, sym, ap, ◌∙◌, append_assoc, append-nil}
+use Rattle.std.proofs.lemmas.Grind.{flat_map-append}
 use Rattle.ty_base.proofs.Passing.{left, right}
 use Rattle.ty_base.specs.Feed.{Pairs}
 use Rattle.ty_base.specs.Passing.{pair_passes, delta_passes}
-use Rattle.ty_base.specs.Limits.{key_fits, value_fits, pairs_fit, deltas_fit}
+use Rattle.ty_base.specs.Limits.{key_fits, value_fits, pairs_fit}
 use Rattle.ty_base.specs.declared.delta.Delta.{Delta}
 use Rattle.ty_wire.specs.Wire.{frame, frames}
 use Rattle.ty_wire.specs.Talk.{kvs_messages}
@@ -57,9 +56,10 @@ walked all filling it before now e w =
     ap (λ (l : List Delta). now ++ frames (kvs_messages l)) (sym (append-nil filling) ∙ sym (ap (λ (l : Pairs). filling ++ snapshot_of l) e))
     ∙ w.written
 
--- a list of messages behind another
-pub joined : (before half now first second : List ℕ) (ms more : List Msg) → half ≡ before ++ first → first ≡ frames ms → now ≡ half ++ second → second ≡ frames more → now ≡ before ++ frames (ms ++ more)
-joined before half now first second ms more a p b q =
-    b ∙ ap (λ (l : List ℕ). l ++ second) a ∙ append_assoc before first second
-    ∙ ap (λ (l : List ℕ). before ++ (l ++ second)) p ∙ ap (λ (l : List ℕ). before ++ (frames ms ++ l)) q
-    ∙ ap (λ (l : List ℕ). before ++ l) (sym (flat_map-append frame ms more))
+-- what is written behind the hello, and with it the whole
+pub opened : (before a b now hello : List ℕ) (kvs tail : List Msg) (all : List ℕ) → a ≡ before ++ hello → b ≡ a ++ frames kvs → now ≡ b ++ frames tail → all ≡ hello ++ frames (kvs ++ tail) → now ≡ before ++ all
+opened before a b now hello kvs tail all p q r e =
+    r ∙ ap (λ (l : List ℕ). l ++ frames tail) (q ∙ ap (λ (l : List ℕ). l ++ frames kvs) p)
+    ∙ append_assoc (before ++ hello) (frames kvs) (frames tail) ∙ append_assoc before hello (frames kvs ++ frames tail)
+    ∙ ap (λ (l : List ℕ). before ++ (hello ++ l)) (sym (flat_map-append frame kvs tail))
+    ∙ ap (λ (l : List ℕ). before ++ l) (sym e)

@@ -1,9 +1,7 @@
 -- What is queued and what was removed are a talk.
-use Rattle.std.proofs.Common.{◌≡◌, ℕ, ◌<◌, ◌≤◌, List, [], ◌∷◌, ◌++◌, length, take, drop, refl, sym, ap, subst, ◌∙◌, arith, length-drop}
+use Rattle.std.proofs.Common.{◌≡◌, ℕ, ◌<◌, List, [], ◌∷◌, ◌++◌, length, take, drop, refl, ap, ◌∙◌, arith, length-drop}
 use Rattle.std.proofs.lemmas.List.{take-append-drop}
-use Rattle.ty_base.specs.declared.entry.Entry.{Entry}
-use Rattle.ty_wire.specs.Wire.{frames}
-use Rattle.ty_marks.specs.Marks.{Mark, start, group, ping, AreMarks, Follow, bytes_of, messages_of, group_numbers}
+use Rattle.ty_marks.specs.Marks.{Mark, start, group, ping, AreMarks, bytes_of, messages_of, group_numbers}
 use Rattle.ty_marks.proofs.Marks.{talk, pings}
 use Rattle.ty_session.proofs.Marks.{bytes-none}
 use Rattle.ty_session.specs.Story.{Story}

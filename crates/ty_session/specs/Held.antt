@@ -1,5 +1,5 @@
 -- What a `Session` holds, and which story it stands for.
-use Rattle.std.specs.Prelude.{◌≡◌, ℕ, ◌+◌, ◌≤◌, ◌<◌, List, [], ◌∷◌, ◌++◌, length, drop, take, Bool, true, false, Option, None, IsSome}
+use Rattle.std.specs.Prelude.{◌≡◌, ℕ, ◌+◌, ◌≤◌, ◌<◌, List, [], ◌++◌, length, drop, take, Bool, true, false, Option, None, IsSome}
 use Rattle.std.specs.List.{list_all}
 use Rattle.ty_base.specs.Feed.{replay}
 use Rattle.ty_base.specs.declared.status.Status.{Status}

@@ -3,7 +3,6 @@ use Rattle.std.specs.Prelude.{◌≡◌, ◌++◌, ◌∷◌, ℕ, List, [], Opt
 use Rattle.ty_base.specs.Drops.{is_unhello, is_silent, is_slow}
 use Rattle.ty_base.specs.declared.entry.Entry.{Entry}
 use Rattle.ty_wire.specs.declared.message.Msg.{Msg}
-use Rattle.ty_wire.specs.declared.fault.WireFault.{WireFault}
 use Rattle.ty_crumb.specs.Crumbs.{CrumbStands}
 use Rattle.ty_crumb.specs.declared.crumb.Crumb.{Crumb}
 use Rattle.ty_session.specs.Held.{SessionHeld, SessionStands}

@@ -1,7 +1,7 @@
 -- What a session stands for: its phase and times, the entries that it was given, its marks, how
 -- many bytes were removed, and what the client said. Each call of a session adds to this story, by
 -- one function here.
-use Rattle.std.specs.Prelude.{ℕ, ◌+◌, ◌&&◌, List, [], ◌∷◌, ◌++◌, length, Bool, true, false, cond, Option, None, Some, nat_lt}
+use Rattle.std.specs.Prelude.{ℕ, ◌+◌, ◌&&◌, List, [], ◌∷◌, ◌++◌, length, Bool, true, false, cond, None, Some, nat_lt}
 use Rattle.ty_base.specs.declared.entry.Entry.{Entry}
 use Rattle.ty_base.specs.declared.delta.Delta.{Delta}
 use Rattle.ty_base.specs.Feed.{World}

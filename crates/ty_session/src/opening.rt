@@ -43,7 +43,8 @@ fn append_opening(alloc: Global, crumb: &Crumb, out: &mut Vec<u8>) -> Result<(),
         Some(crumb.status),
         crumb.number,
         out,
-    )
+    )?;
+    Ok(())
 }
 
 // The KVs messages of all pairs.

@@ -1,5 +1,5 @@
 -- What each step makes of a session's fields.
-use Rattle.std.specs.Prelude.{ℕ, ◌++◌, List, [], length, cond, Some}
+use Rattle.std.specs.Prelude.{ℕ, ◌++◌, List, [], length, cond}
 use Rattle.ty_base.specs.declared.delta.Delta.{Delta}
 use Rattle.ty_wire.specs.Wire.{frame, frames}
 use Rattle.ty_wire.specs.Talk.{group_messages, status_change}
