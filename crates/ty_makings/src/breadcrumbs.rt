@@ -1,5 +1,4 @@
 // Worked batches, and what want of memory would hide.
-
 use crate::batches::is_batch;
 use std::alloc::Global;
 use std::test::Fail;
