@@ -131,10 +131,7 @@ const LENGTHS: [(&[&[u8]], (usize, Option<WireFault>, u64)); 4] = [
 ];
 
 // What the last piece brings.
-fn brought(
-    alloc: Global,
-    pieces: &[&[u8]],
-) -> Result<(usize, Option<WireFault>, u64), NoMemory> {
+fn brought(alloc: Global, pieces: &[&[u8]]) -> Result<(usize, Option<WireFault>, u64), NoMemory> {
     let mut frames = Frames::new(alloc);
     let mut last = (0, None);
     for piece in pieces {

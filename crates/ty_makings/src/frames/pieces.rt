@@ -64,11 +64,7 @@ const ROWS: [Row; 11] = [
     },
     Row {
         word: Word::Kvs(&[
-            (
-                "k\u{1}\u{1f}\u{7f}é",
-                Kind::Updated,
-                "\\\u{8}\u{c}\n\r\t/",
-            ),
+            ("k\u{1}\u{1f}\u{7f}é", Kind::Updated, "\\\u{8}\u{c}\n\r\t/"),
             ("k", Kind::Deleted, ""),
         ]),
         body: "{\"kvs\":[{\"key\":\"k\\u0001\\u001f\u{7f}é\",\"type\":\"updated\",\"value\":\"\\\\\\b\\f\\n\\r\\t/\"},{\"key\":\"k\",\"type\":\"deleted\"}],\"m\":\"kvs\"}",
