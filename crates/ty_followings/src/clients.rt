@@ -244,23 +244,44 @@ fn a_hello_and_a_pong_go_up(rt: HostRuntime) -> Result<(), Fail> {
     Ok(())
 }
 
+// A connection with deltas behind its crumb 3, and one that ends at it.
+const FIRST: [&str; 5] = [HELLO, NEW_A, RESYNC, CRUMB_3, NEW_B];
+
+const SECOND: [&str; 4] = [HELLO, NEW_B, RESYNC, CRUMB_3];
+
+#[test]
+fn what_is_held_outlasts_its_connection(rt: HostRuntime) -> Result<(), Fail> {
+    let alloc = rt.alloc();
+    let mut rebuild = Rebuild::new(alloc);
+    assert_eq!(rt; held(&rebuild), None);
+    assert_eq!(rt; fed(alloc, &mut rebuild, &FIRST)?, (1, None));
+    rebuild.lost();
+    assert_eq!(rt; held(&rebuild), Some(1));
+    Ok(())
+}
+
+// What bodies bring, and how many pairs are held then.
+fn fed_and_held(
+    alloc: Global,
+    rebuild: &mut Rebuild,
+    bodies: &[&str],
+) -> Result<(usize, Option<StreamFault>, Option<usize>), Fail> {
+    let (ats, fault) = fed(alloc, rebuild, bodies)?;
+    Ok((ats, fault, held(rebuild)))
+}
+
 #[test]
 fn one_connection_after_another(rt: HostRuntime) -> Result<(), Fail> {
     let alloc = rt.alloc();
     let mut rebuild = Rebuild::new(alloc);
-    assert_eq!(rt; held(&rebuild), None);
-    let first = &[HELLO, NEW_A, RESYNC, CRUMB_3, NEW_B];
-    assert_eq!(rt; fed(alloc, &mut rebuild, first)?, (1, None));
+    fed(alloc, &mut rebuild, &FIRST)?;
     rebuild.feed(alloc, b"\x00\x00")?;
     assert_eq!(rt; rebuild.left(), 2);
     rebuild.lost();
-    assert_eq!(rt; held(&rebuild), Some(1));
-    let second = &[HELLO, NEW_B, RESYNC, CRUMB_3];
-    assert_eq!(rt; fed(alloc, &mut rebuild, second)?, (1, None));
-    assert_eq!(rt; held(&rebuild), Some(1));
     let fault = Some(StreamFault::Order { frame: 5 });
-    assert_eq!(rt; fed(alloc, &mut rebuild, second)?, (0, fault));
-    assert_eq!(rt; fed(alloc, &mut rebuild, second)?, (0, fault));
+    for wanted in [(1, None, Some(1)), (0, fault, Some(1)), (0, fault, Some(1))] {
+        assert_eq!(rt; fed_and_held(alloc, &mut rebuild, &SECOND)?, wanted);
+    }
     Ok(())
 }
 
