@@ -1,5 +1,12 @@
-pub mod Histories
+mod Blocks
+mod Chains
+mod Crossing
+mod Histories
+mod Pairs
 pub mod Prefixes
-pub mod Rights
-pub mod Rules
-pub mod Tokens
+mod Rights
+mod Rows
+mod Rules
+pub mod Sent
+mod Steps
+mod Walking

@@ -1,14 +1,14 @@
 // What a caller knows of an account.
-ghost use Rattle.ty_base.specs.declared.limits.TheConstants.{INPUT_BYTES};
-ghost use Rattle.std.specs.Prelude.{◌≡◌, ◌+◌, ◌≤◌, ◌⊎◌, [], length, false, Some};
+ghost use Rattle.std.specs.Prelude.{◌≡◌, ◌⊎◌, length, true};
 ghost use mathlib.Core.List.{IsPrefix};
-ghost use Rattle.ty_account.specs.Known.{KnowsMore};
-ghost use Rattle.ty_account.specs.steps.Histories.{word_weight, known_after, known_of};
-ghost use Rattle.ty_account.specs.steps.Rules.{word_in};
+ghost use Rattle.ty_account.specs.Known.{KnowsMore, name_of};
+ghost use Rattle.ty_account.specs.steps.Histories.{known_of, word_of, word_for, is_legal, IsChain};
+ghost use Rattle.ty_account.specs.steps.Rules.{word_in, Told};
 
 use crate::history::{Law, Mark, Reply};
-use crate::right::{Asks, Entering, Right};
-use crate::step::{Adding, Head, Looking, Nothing};
+use crate::reads::{Reading, looking};
+use crate::standing::Standing;
+use crate::step::{Head, Looking};
 use logbook::{Offer, Seen};
 use std::marker::Model;
 
@@ -24,13 +24,13 @@ pub struct Look {
 /// A caller's knowledge of an account: a prefix of its list, and perhaps that the list is closed there. It takes
 /// 8 bytes, whatever it knows.
 #[derive(Drop)]
-pub struct Front {
+pub struct Front<T: Standing> {
     // Twice the number of entries that are known, and one more where the list is known to be closed.
     word: u64,
-    seen: Seen<Mark, Reply, Law>,
+    seen: Seen<Mark<T>, Reply<T>, Law<T>>,
 }
 
-impl Model for Front {
+impl<T: Standing> Model for Front<T> {
     ghost use Rattle.std.specs.Prelude.{◌≡◌, true};
     ghost use Rattle.ty_account.specs.Known.{Known};
     ghost use Rattle.ty_account.specs.steps.Histories.{known_of, word_of, is_legal};
@@ -42,67 +42,62 @@ impl Model for Front {
     ghost invariant = { λ f. (f.word ≡ word_of f.seen.log) × (is_legal f.seen.log ≡ true) };
 }
 
-impl Front {
-    // The front of a list that was just opened.
-    pub(crate) fn begun(seen: Seen<Mark, Reply, Law>) -> Front
-        requires { seen.log ≡ [] }
-        ensures { result ≡ known_of seen.book seen.names [] }
+impl<T: Standing> Front<T> {
+    // The front that knows what was seen.
+    pub(crate) fn of(word: u64, seen: Seen<Mark<T>, Reply<T>, Law<T>>) -> Front<T>
+        requires word { word ≡ word_of seen.log }
+        requires legal { is_legal seen.log ≡ true }
+        ensures { result ≡ known_of seen.book seen.names seen.log }
     {
-        Front { word: 0, seen }
+        Front { word, seen }
     }
 
-    // Looks at the word of its account.
-    pub(crate) fn look_at(&mut self, head: &Head) -> Look
-        requires { head.now ≡ word_in self.old.account.book }
-        ensures more { KnowsMore self.old self.new }
-        ensures count { result.count ≡ length self.new.entries }
-        ensures closed { result.closed ≡ self.new.closed }
+    // The word that says what is known.
+    pub(crate) fn word(&self) -> u64
+        ensures { result ≡ word_for self.now }
     {
-        let mut offer: Offer<Mark, Reply, Law, Nothing> = self
-            .seen
-            .plain::<Nothing, (), Looking>(&());
-        let found = head.load::<Looking, Nothing>(&mut self.seen, &mut offer);
-        self.word = found;
+        self.word
+    }
+
+    // What is known, as a look tells it.
+    pub(crate) fn look(&self) -> Look
+        ensures count { result.count ≡ length self.now.entries }
+        ensures closed { result.closed ≡ self.now.closed }
+    {
         Look {
-            count: found / 2,
-            closed: found % 2 == 1,
+            count: self.word / 2,
+            closed: self.word % 2 == 1,
         }
     }
 
-    // Adds a mark, with the right. `by` is what the mark adds to the word.
-    pub(crate) fn add<X, M: Asks<X>>(
+    // Looks at the word of its account, with what somebody else saw of it, and gains the right to read each node that is
+    // there.
+    pub(crate) fn follow(
         &mut self,
-        head: &Head,
-        right: Right,
-        about: &X,
-        by: u64,
-    ) -> Right
-        requires head { head.now ≡ word_in self.old.account.book }
-        requires right { (right.names ≡ self.old.account.names)
-            × (right.held ≡ Some (length self.old.entries)) }
-        requires open { self.old.closed ≡ false }
-        requires room { length self.old.entries ≤ INPUT_BYTES }
-        requires by { by ≡ word_weight (M.ask about.now) }
-        ensures front { self.new ≡ known_after (M.ask about.now) self.old }
-        ensures right { (result.names ≡ right.names)
-            × (result.held ≡ Some (length self.old.entries + 1)) }
+        head: &Head<T>,
+        seen: &Seen<Mark<T>, Reply<T>, Law<T>>,
+    ) -> (
+        Offer<Mark<T>, Reply<T>, Law<T>, Reading>,
+        Seen<Mark<T>, Reply<T>, Law<T>>,
+    )
+        requires head { head.now ≡ word_in seen.now.book }
+        requires same { self.old.account ≡ name_of seen.now.book seen.now.names }
+        ensures more { KnowsMore self.old self.new }
+        ensures told { (result.0.names ≡ seen.now.names) × Told result.0.state result.1.log }
+        ensures seen { (result.1.book ≡ seen.now.book) × (result.1.names ≡ seen.now.names)
+            × IsPrefix seen.now.log result.1.log }
+        ensures rule { (is_legal result.1.log ≡ true) × IsChain T.stands result.1.log }
+        ensures new { self.new ≡ known_of seen.now.book seen.now.names result.1.log }
     {
-        let mut offer = right.offer::<X, M>(&self.seen, about);
-        let mut pen = self.seen.no_pen();
-        let word = self.word;
-        let _found = head.compare_exchange::<Adding, Entering>(
-            word,
-            word + by,
-            &mut self.seen,
-            &mut offer,
-            &mut pen,
-        );
-        self.word = word + by;
-        Right::back(offer.into_gain())
+        self.seen.learn(seen);
+        let mut offer = looking(&self.seen);
+        let found = head.load::<Looking<T>, Reading>(&mut self.seen, &mut offer);
+        self.word = found;
+        (offer, self.seen.again())
     }
 
     // The one of two fronts that knows more, and the other's knowledge begins it.
-    pub(crate) fn longer(&self, other: &Front) -> Front
+    pub(crate) fn longer(&self, other: &Front<T>) -> Front<T>
         requires { other.now.account ≡ self.now.account }
         ensures this { KnowsMore self.now result }
         ensures that { KnowsMore other.now result }
@@ -121,7 +116,7 @@ impl Front {
 }
 
 /// A copy of what is known.
-pub fn front_copy(front: &Front) -> Front
+pub fn front_copy<T: Standing>(front: &Front<T>) -> Front<T>
     ensures { result ≡ front.now }
 {
     Front {
@@ -131,7 +126,7 @@ pub fn front_copy(front: &Front) -> Front
 }
 
 /// How many entries are known.
-pub fn front_count(front: &Front) -> u64
+pub fn front_count<T: Standing>(front: &Front<T>) -> u64
     ensures { result ≡ length front.now.entries }
 {
     front.word / 2

@@ -1,24 +1,23 @@
 // The right to enter: a resource that the pen holds, and that each entry trades. Its calls are proved by hand.
-ghost use Rattle.std.specs.Prelude.{◌≡◌, ℕ, List, length, [], Option, None, Some};
+ghost use Rattle.std.specs.Prelude.{◌≡◌, ℕ, List, length, [], ◌∷◌, Option, None, Some};
 ghost use Rattle.std.specs.Coded.{coded_option};
-ghost use Rattle.ty_account.specs.steps.Rights.{right_owns, count_after};
+ghost use Rattle.ty_account.specs.steps.Rights.{right_owns, life_of};
+ghost use Rattle.ty_account.specs.declared.history.Mark.TheVariants.{Opened, Entered, Closed};
 ghost use base.Stored.{coded_ℕ};
 
 use crate::history::{Law, Mark, Reply};
+use crate::hoard::{Deeds, Known};
+use crate::last::Last;
+use crate::node::Place;
+use crate::pen::AsEntry;
+use crate::standing::Standing;
 use logbook::{Gain, Gained, Offer, Seen, Start};
 use std::marker::{Model, PhantomData};
-
-/// Which mark a step adds, by a value of the caller's.
-pub(crate) trait Asks<X> {
-    ghost use Rattle.ty_account.specs.declared.history.Mark.{Mark};
-
-    ghost ask: { X → Mark };
-}
 
 /// What a step gains that was made with the right: the right, at the new length.
 pub(crate) struct Entering;
 
-impl Gain<Mark, Reply> for Entering {
+impl<T: Standing> Gain<Mark<T>, Reply<T>> for Entering {
     ghost use Rattle.ty_account.specs.steps.Rights.{entering};
 
     ghost after = { λ names about reply. entering names about reply };
@@ -36,15 +35,26 @@ impl Model for Right {
 }
 
 impl Right {
-    /// The right over a history without marks, beside the part that the book keeps.
-    pub fn begin() -> (Start<Mark, Reply, Law>, Right)
-        ensures { (result.0.shown ≡ []) × (result.1.names ≡ result.0.names) × (result.1.held ≡ Some 0) }
+    /// The right over the history of an account whose first node was just lent, beside what the book keeps. The deed to
+    /// that node goes to the book, and whoever holds the last right takes it out again.
+    pub fn begin<T: Standing>(
+        known: &Known<Place<T>>,
+        deeds: Deeds<Place<T>>,
+    ) -> (Start<Mark<T>, Reply<T>, Law<T>>, Right, Last)
+        requires { (deeds.life ≡ known.now.life) × (deeds.lots ≡ (known.now.at, known.now.value) ∷ []) }
+        ensures { (result.0.shown ≡ Opened known.now.at known.now.value ∷ []) × (life_of result.0.names ≡ known.now.life)
+            × (result.1.names ≡ result.0.names) × (result.1.held ≡ Some 1) × (result.2.names ≡ result.0.names) }
     {
+        let _ = known;
+        let Deeds { marker: _ } = deeds;
         (
             Start {
                 marker: PhantomData,
             },
             Right {
+                marker: PhantomData,
+            },
+            Last {
                 marker: PhantomData,
             },
         )
@@ -59,26 +69,50 @@ impl Right {
         }
     }
 
-    /// The update that a step makes with this right.
-    pub fn offer<X, M: Asks<X>>(
+    /// The update of a step that enters what a value says, with a node that was lent.
+    pub fn entering<T: Standing, E: AsEntry>(
         self,
-        seen: &Seen<Mark, Reply, Law>,
-        about: &X,
-    ) -> Offer<Mark, Reply, Law, Entering>
+        seen: &Seen<Mark<T>, Reply<T>, Law<T>>,
+        value: &E,
+        known: &Known<Place<T>>,
+        deeds: Deeds<Place<T>>,
+    ) -> Offer<Mark<T>, Reply<T>, Law<T>, Entering>
+        requires { (self.names ≡ seen.now.names) × (self.held ≡ Some (length seen.now.log))
+            × (known.now.life ≡ life_of seen.now.names) × (deeds.life ≡ known.now.life)
+            × (deeds.lots ≡ (known.now.at, known.now.value) ∷ []) }
+        ensures { (result.names ≡ seen.now.names) × (result.ask ≡ Entered (E.entry value.now) known.now.at known.now.value)
+            × (result.about ≡ seen.now.log) × (result.state ≡ None) }
+    {
+        let Self { marker: _ } = self;
+        let _ = seen;
+        let _ = value;
+        let _ = known;
+        let Deeds { marker: _ } = deeds;
+        Offer {
+            marker: PhantomData,
+        }
+    }
+
+    /// The update of a step that closes.
+    pub fn closing<T: Standing>(
+        self,
+        seen: &Seen<Mark<T>, Reply<T>, Law<T>>,
+    ) -> Offer<Mark<T>, Reply<T>, Law<T>, Entering>
         requires { (self.names ≡ seen.now.names) × (self.held ≡ Some (length seen.now.log)) }
-        ensures { (result.names ≡ seen.now.names) × (result.ask ≡ M.ask about.now) × (result.about ≡ seen.now.log)
+        ensures { (result.names ≡ seen.now.names) × (result.ask ≡ Closed) × (result.about ≡ seen.now.log)
             × (result.state ≡ None) }
     {
         let Self { marker: _ } = self;
+        let _ = seen;
         Offer {
             marker: PhantomData,
         }
     }
 
     /// The right, after the step.
-    pub fn back(gained: Gained<Mark, Reply, Entering>) -> Right
+    pub fn back<T: Standing>(gained: Gained<Mark<T>, Reply<T>, Entering>) -> Right
         ensures { (gained.answer.found ≡ length gained.about) × (result.names ≡ gained.names)
-            × (result.held ≡ Some (count_after gained.answer.added (length gained.about))) }
+            × (result.held ≡ Some (length gained.answer.all)) }
     {
         let Gained { marker: _ } = gained;
         Right {

@@ -1,66 +1,30 @@
 // The steps on an account's word: what they ask for, and what they tell.
 use crate::history::{Law, Mark, Reply};
-use crate::pen::AsEntry;
-use crate::right::Asks;
-use logbook::{Gain, Plain, Play, Word};
+use crate::standing::Standing;
+use logbook::{Play, Word};
 use std::marker::PhantomData;
-use ty_base::Entry;
 
 /// An account's word.
-pub(crate) type Head = Word<Mark, Reply, Law>;
-
-/// What a look trades.
-pub(crate) struct Nothing;
-
-impl Gain<Mark, Reply> for Nothing {
-    ghost use base.Fml.{ftrue};
-
-    ghost after = { λ names about reply. ftrue };
-}
+pub(crate) type Head<T> = Word<Mark<T>, Reply<T>, Law<T>>;
 
 /// A look, which adds no mark.
-pub(crate) struct Looking;
-
-impl Play<Mark, Reply> for Looking {
-    ghost use Rattle.ty_account.specs.steps.Rules.{Looks};
-
-    ghost then = { Looks };
+pub(crate) struct Looking<T> {
+    of: PhantomData<T>,
 }
 
-impl Plain<(), Mark, Reply> for Looking {
-    ghost use Rattle.std.specs.Prelude.{Some, false};
-    ghost use Rattle.ty_account.specs.declared.history.Mark.TheVariants.{Closed};
+impl<T: Standing> Play<Mark<T>, Reply<T>> for Looking<T> {
+    ghost use Rattle.ty_account.specs.steps.Rules.{Looks};
 
-    ghost ask = { λ u. Closed };
-
-    ghost state = { λ u. Some (record { found = 0; added = false }) };
+    ghost then = { Looks T.stands };
 }
 
 /// A step that enters or closes.
-pub(crate) struct Adding;
-
-impl Play<Mark, Reply> for Adding {
-    ghost use Rattle.ty_account.specs.steps.Rules.{Enters};
-
-    ghost then = { Enters };
+pub(crate) struct Adding<T> {
+    of: PhantomData<T>,
 }
 
-/// A step that enters what a value says.
-pub(crate) struct EnterAs<E> {
-    of: PhantomData<E>,
-}
+impl<T: Standing> Play<Mark<T>, Reply<T>> for Adding<T> {
+    ghost use Rattle.ty_account.specs.steps.Rules.{Adds};
 
-impl<E: AsEntry> Asks<E> for EnterAs<E> {
-    ghost use Rattle.ty_account.specs.declared.history.Mark.TheVariants.{Entered};
-
-    ghost ask = { λ value. Entered (E.entry value) };
-}
-
-/// A step that closes.
-pub(crate) struct Close;
-
-impl Asks<()> for Close {
-    ghost use Rattle.ty_account.specs.declared.history.Mark.TheVariants.{Closed};
-
-    ghost ask = { λ u. Closed };
+    ghost then = { Adds T.stands };
 }

@@ -7,7 +7,6 @@ ghost use Rattle.ty_base.specs.Limits.{key_fits, value_fits, items_fit};
 ghost use Rattle.ty_base.specs.Batches.{IsBatch};
 
 use std::alloc::Global;
-use std::sync::Wait;
 use ty_account::Named;
 use ty_base::{BATCH_UPDATES, INPUT_BYTES, Item, KEY_BYTES, NoMemory, Text, VALUE_BYTES};
 use ty_chain::Publisher;
@@ -100,8 +99,7 @@ pub(crate) fn next(alloc: Global, last: &Crumb, puts: u64) -> Result<Option<Crum
 
 // Publishes so many puts, a millisecond after the last breadcrumb, where they are a batch and the
 // chain has room for so many items. It tells whether they are.
-pub(crate) fn publish<L: Named, R: Wait>(
-    rt: &R,
+pub(crate) fn publish<L: Named>(
     alloc: Global,
     publisher: &mut Publisher<L>,
     puts: u64,
@@ -113,6 +111,6 @@ pub(crate) fn publish<L: Named, R: Wait>(
     if !is_batch(&items) || items.len() as u64 >= room {
         return Ok(false);
     }
-    publisher.publish(rt, alloc, &items, at)?;
+    publisher.publish(alloc, &items, at)?;
     Ok(true)
 }

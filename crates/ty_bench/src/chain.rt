@@ -6,9 +6,9 @@ use crate::batch::publish;
 use std::alloc::{AllocError, Global};
 use std::sync::Wait;
 use std::thread::{Threads, join, map_indices, yield_now};
-use ty_account::{Front, Named, front_copy};
+use ty_account::{Named, front_copy};
 use ty_base::NoMemory;
-use ty_chain::{Follower, Lobby, Opening, Publisher, Step, start};
+use ty_chain::{Follower, Front, Lobby, Opening, Publisher, Step, start};
 
 const PUTS: u64 = 100;
 
@@ -44,7 +44,7 @@ fn follow_the_publisher<L: Named + Send + Sync, R: Threads + Wait + Sync>(
         || -> Result<Vec<Result<u64, NoMemory>>, AllocError>
             requires { IsSync R.row × (IsSend L.row × (IsSync L.row × (front.now.account ≡ L.account))) }
         { follow_in_threads(rt, alloc, lobby, front, followers) },
-        || publish_and_close(rt, alloc, publisher, crumbs),
+        || publish_and_close(alloc, publisher, crumbs),
     );
     published?;
     sum(&steps?)
@@ -62,25 +62,23 @@ fn sum(all: &[Result<u64, NoMemory>]) -> Result<u64, NoMemory> {
 }
 
 // Publishes, and closes the chain whether it could or not.
-fn publish_and_close<L: Named, R: Wait>(
-    rt: &R,
+fn publish_and_close<L: Named>(
     alloc: Global,
     mut publisher: Publisher<L>,
     crumbs: u64,
 ) -> Result<(), NoMemory> {
-    let published = publish_all(rt, alloc, &mut publisher, crumbs);
-    publisher.close(rt);
+    let published = publish_all(alloc, &mut publisher, crumbs);
+    publisher.close();
     published
 }
 
-fn publish_all<L: Named, R: Wait>(
-    rt: &R,
+fn publish_all<L: Named>(
     alloc: Global,
     publisher: &mut Publisher<L>,
     crumbs: u64,
 ) -> Result<(), NoMemory> {
     for _ in 0..crumbs {
-        if !publish(rt, alloc, publisher, PUTS)? {
+        if !publish(alloc, publisher, PUTS)? {
             return Ok(());
         }
     }
@@ -115,19 +113,16 @@ fn enter_and_follow<L: Named, R: Wait>(
     requires { front.now.account ≡ L.account }
 {
     let mut follower = lobby.enter(rt, front)?;
-    steps_to_the_end(rt, &mut follower)
+    Ok(steps_to_the_end(rt, &mut follower))
 }
 
-fn steps_to_the_end<L: Named, R: Wait>(
-    rt: &R,
-    follower: &mut Follower<L>,
-) -> Result<u64, NoMemory> {
+fn steps_to_the_end<L: Named, R: Wait>(rt: &R, follower: &mut Follower<L>) -> u64 {
     let mut steps: u64 = 0;
     for _ in rt.forever() {
-        match follower.step(rt)? {
+        match follower.step() {
             Step::Stepped => steps = steps.saturating_add(1),
             Step::Pending => yield_now(),
-            Step::Ended => return Ok(steps),
+            Step::Ended => return steps,
         }
     }
     unreachable!()

@@ -1,11 +1,10 @@
 -- What a batch comes to, over what a publisher keeps.
-use Rattle.std.proofs.Common.{◌≡◌, ℕ, ◌+◌, ◌≤◌, ◌<◌, Bool, true, false, List, [], ◌∷◌, ◌++◌, length, refl, sym, ap, ◌∙◌, subst, arith, true≢false}
+use Rattle.std.proofs.Common.{◌≡◌, ℕ, ◌+◌, ◌≤◌, Bool, false, List, [], ◌∷◌, ◌++◌, length, refl, sym, ap, ◌∙◌, subst, arith, true≢false}
 use Rattle.std.specs.List.{fold}
 use Rattle.ty_base.specs.declared.item.Item.{Item}
 use Rattle.ty_base.specs.declared.entry.Entry.{Entry}
 use Rattle.ty_base.specs.Feed.{World, after, book, folded, replay, same_world}
 use Rattle.ty_base.proofs.Pairs.{worlds_decide}
-use Rattle.ty_account.specs.Known.{Known, known}
 use Rattle.ty_crumb.specs.declared.crumb.Crumb.{Crumb}
 use Rattle.ty_base.specs.Batches.{IsClosed, IsNextBatch}
 use Rattle.ty_crumb.specs.Batches.{next_entries}

@@ -11,12 +11,10 @@ use Rattle.ty_crumb.specs.contracts.crumb.Crumb as Crumb
 use Rattle.ty_group.proofs.encoded.Encoded.TheSendSync as encoded
 use Rattle.ty_account.specs.declared.named.Named.{Ghosts}
 use Rattle.ty_account.proofs.front.Front.TheSendSync as front
-use Rattle.ty_account.proofs.account.Account.TheSendSync as account
-use Rattle.ty_account.proofs.pen.Pen.TheSendSync as pen
+use Rattle.ty_account.proofs.Sent.{account_send, account_sync, pen_send, spot_send}
 use Rattle.ty_chain.specs.contracts.parcel.Parcel as Parcel
 use Rattle.ty_chain.specs.contracts.place.Place as Place
-use Rattle.ty_chain.specs.contracts.chain.Places as Places
-use Rattle.ty_chain.specs.contracts.chain.Chain as Chain
+use Rattle.ty_chain.specs.contracts.stop.Stop as Stop
 use Rattle.ty_chain.specs.contracts.lobby.Lobby as Lobby
 use Rattle.ty_chain.specs.contracts.follower.Follower as Follower
 use Rattle.ty_chain.specs.contracts.publisher.Publisher as Publisher
@@ -39,29 +37,26 @@ parcel_send = search (crumb_send, encoded.the_send, sendable) depth 20
 pub parcel_sync : IsSync Parcel.the_row
 parcel_sync = search (crumb_sync, encoded.the_sync, sendable) depth 20
 
+pub stop_send : IsSend Stop.the_row
+stop_send = search (parcel_send, parcel_sync, crosses, sendable) depth 20
+
+pub stop_sync : IsSync Stop.the_row
+stop_sync = search (parcel_send, parcel_sync, crosses, sendable) depth 20
+
 module _ (L : RattleType) (g : Ghosts L.Denot) where
   place_send : IsSend (Place.the_row L g)
-  place_send = search (parcel_send, parcel_sync, front.the_send, crosses, sendable) depth 20
-
-  places_send : IsSend (Places.the_row L g)
-  places_send = let place = place_send in search (crosses, sendable) depth 20
-
-  chain_send : IsSend (Chain.the_field L g).row
-  chain_send = let places = places_send in search (crosses, sendable) depth 20
-
-  chain_sync : IsSync (Chain.the_field L g).row
-  chain_sync = let places = places_send in search (crosses, sendable) depth 20
+  place_send = search (stop_send, stop_sync, spot_send, front.the_send, crosses, sendable) depth 20
 
   pub lobby_send : IsSend (Lobby.the_row L g)
-  lobby_send = let chain = chain_send in search (account.the_send, sendable) depth 20
+  lobby_send = let place = place_send in search (stop_send, stop_sync, account_send, crosses, sendable) depth 20
 
   pub lobby_sync : IsSync (Lobby.the_row L g)
-  lobby_sync = let chain = chain_sync in search (account.the_sync, sendable) depth 20
+  lobby_sync = let place = place_send in search (stop_send, stop_sync, account_sync, crosses, sendable) depth 20
 
   pub follower_send : IsSend (Follower.the_row L g)
-  follower_send = let chain = chain_send in let place = place_send in search (account.the_send, sendable) depth 20
+  follower_send = let place = place_send in search (stop_send, stop_sync, account_send, sendable) depth 20
 
   pub publisher_send : IsSend (Publisher.the_row L g)
-  publisher_send = let chain = chain_send in search (parcel_send, parcel_sync, pen.the_send, crosses, sendable) depth 20
+  publisher_send = search (stop_send, stop_sync, parcel_send, parcel_sync, pen_send, spot_send, crosses, sendable) depth 20
 
-pub ruleset sent = (lobby_send, lobby_sync, follower_send, publisher_send, front.the_send, front.the_sync)
+pub ruleset sent = (lobby_send, lobby_sync, follower_send, publisher_send, stop_send, stop_sync, front.the_send, front.the_sync)

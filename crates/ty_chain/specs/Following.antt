@@ -1,5 +1,5 @@
 -- What a follower's step comes to, and two followers that meet.
-use Rattle.std.specs.Prelude.{ℕ, ◌≡◌, ◌+◌, ◌<◌, ◌++◌, ◌∷◌, [], true, false, List, length}
+use Rattle.std.specs.Prelude.{◌≡◌, ◌+◌, ◌++◌, ◌∷◌, [], true, false, List, length}
 use mathlib.Core.List.{IsPrefix}
 use Rattle.ty_base.specs.declared.entry.Entry.{Entry}
 use Rattle.ty_account.specs.Known.{KnowsMore}
@@ -31,10 +31,6 @@ abbrev pub StepDone : Shown → Shown → Step → Type 0
 StepDone old new Stepped = Moves old new
 StepDone old new Pending = Stays old new × IsAtEnd new × (new.known.closed ≡ false)
 StepDone old new Ended = Stays old new × IsAtEnd new × (new.known.closed ≡ true)
-
--- the look found a later entry, and the follower stays
-abbrev pub SawMore : Shown → Shown → Type 0
-SawMore old new = Stays old new × (old.crumb.number < length new.known.entries)
 
 -- two breadcrumbs say the same, but for the time when they were made
 pub record Alike (one two : Crumb) : Type 0 where

@@ -1,15 +1,13 @@
 // Followers, which step along the chain.
-ghost use Rattle.std.specs.Prelude.{◌≡◌, ◌≢◌, MatchBool, MatchOption, MatchResult};
+ghost use Rattle.std.specs.Prelude.{◌≡◌, ◌≢◌, MatchBool};
 ghost use Rattle.ty_account.specs.Known.{KnowsMore};
 ghost use Rattle.ty_chain.specs.Shown.{Within};
-ghost use Rattle.ty_chain.specs.Following.{Alike, SawMore, Stays, StepDone};
+ghost use Rattle.ty_chain.specs.Following.{Alike, StepDone};
 
-use crate::chain::Chain;
 use crate::place::Place;
+use crate::stop::{Front, Stop};
 use std::marker::Model;
-use std::sync::Wait;
-use ty_account::{Account, Front, Named};
-use ty_base::NoMemory;
+use ty_account::{Account, Named};
 use ty_crumb::Crumb;
 use ty_group::Encoded;
 
@@ -27,8 +25,7 @@ pub enum Step {
 /// A follower stands at a breadcrumb of the chain. Contracts see the breadcrumb, and what its front knows.
 #[derive(Drop)]
 pub struct Follower<L: Named> {
-    chain: Chain<L>,
-    account: Account,
+    account: Account<Stop>,
     place: Place<L>,
 }
 
@@ -48,15 +45,11 @@ impl<L: Named> Model for Follower<L> {
 }
 
 impl<L: Named> Follower<L> {
-    pub(crate) fn at(chain: Chain<L>, account: Account, place: Place<L>) -> Follower<L>
+    pub(crate) fn at(account: Account<Stop>, place: Place<L>) -> Follower<L>
         requires { account ≡ L.account }
         ensures { result ≡ place }
     {
-        Follower {
-            chain,
-            account,
-            place,
-        }
+        Follower { account, place }
     }
 
     /// The breadcrumb at which it stands, and which stands for a prefix of the account's list that its front knows.
@@ -82,25 +75,11 @@ impl<L: Named> Follower<L> {
         self.place.front()
     }
 
-    /// One step along one link, by one look at the account. It waits for a lock, and may try again. Want of memory
-    /// comes only where the look found a later entry, and leaves the follower where it stood.
-    pub fn step<R: Wait>(&mut self, rt: &R) -> Result<Step, NoMemory>
-        ensures { MatchResult result (λ step. StepDone self.old self.new step) (λ _. SawMore self.old self.new) }
+    /// One step along one link, by one look at the account. It takes no lock and no memory, and waits for nobody.
+    pub fn step(&mut self) -> Step
+        ensures { StepDone self.old self.new result }
     {
-        for _ in rt.forever() {
-            match self.try_step(rt) {
-                Ok(Some(step)) => return Ok(step),
-                Ok(None) => {}
-                Err(fault) => return Err(fault),
-            }
-        }
-        unreachable!()
-    }
-
-    fn try_step<R: Wait>(&mut self, rt: &R) -> Result<Option<Step>, NoMemory>
-        ensures { MatchResult result (λ tried. MatchOption tried (Stays self.old self.new) (λ step. StepDone self.old self.new step)) (λ _. SawMore self.old self.new) }
-    {
-        self.chain.step(rt, &self.account, &mut self.place)
+        self.place.step()
     }
 
     fn meet(&mut self, front: &Front)

@@ -4,31 +4,40 @@ ghost use mathlib.Core.List.{IsPrefix};
 ghost use Rattle.ty_account.specs.Known.{KnowsMore};
 ghost use Rattle.ty_chain.specs.Shown.{Within};
 
-use crate::chain::Chain;
 use crate::follower::Follower;
+use crate::place::Place;
 use crate::publisher::Publisher;
-use std::sync::Wait;
-use ty_account::{Account, Front, Look, Named};
+use crate::stop::{Front, Stop};
+use std::alloc::Global;
+use std::sync::{Arc, Mutex, Wait};
+use ty_account::{Account, Look, Named};
 use ty_base::NoMemory;
 
-/// Where followers enter.
+/// Where followers enter. Its lock is the only one of the chain.
 #[derive(Drop)]
 pub struct Lobby<L: Named> {
-    chain: Chain<L>,
-    account: Account,
+    posted: Arc<Mutex<Place<L>>, Global>,
+    account: Account<Stop>,
     ghost same: { account ≡ L.account },
 }
 
 impl<L: Named> Lobby<L> {
-    pub(crate) fn over(chain: Chain<L>, account: Account) -> Lobby<L>
+    pub(crate) fn over(
+        alloc: Global,
+        first: Place<L>,
+        account: Account<Stop>,
+    ) -> Result<Lobby<L>, NoMemory>
         requires { account ≡ L.account }
     {
-        Lobby { chain, account }
+        Ok(Lobby {
+            posted: Arc::new(alloc, Mutex::new(first))?,
+            account,
+        })
     }
 
     /// Posts the publisher's last breadcrumb, where those who enter from now on stand at first. It waits for a lock.
     pub fn post<R: Wait>(&self, rt: &R, publisher: &Publisher<L>) {
-        self.chain.post(rt, publisher.crumb().number);
+        publisher.post_at(&mut *self.posted.lock(rt));
     }
 
     /// A follower at the breadcrumb that is posted. Its front knows at least what this front knows. It waits for a
@@ -38,9 +47,9 @@ impl<L: Named> Lobby<L> {
         ensures more { IfOk result (λ f. KnowsMore front.now f.known) }
         ensures stands { IfOk result (λ f. Within f.crumb f.known) }
     {
-        let mut place = self.chain.posted(rt)?;
+        let mut place = self.posted.lock(rt).copy()?;
         place.meet(&self.account, front);
-        Ok(Follower::at(self.chain.share()?, self.account.share()?, place))
+        Ok(Follower::at(self.account.share()?, place))
     }
 
     /// The account's list at one step of this call, without the lock. The front knows it afterwards.

@@ -2,38 +2,42 @@
 ghost use Rattle.std.specs.Prelude.{◌≡◌, [], false, IfOk};
 ghost use Rattle.ty_account.specs.Known.{known};
 
-use crate::chain::Chain;
 use crate::lobby::Lobby;
 use crate::parcel::Parcel;
 use crate::place::Place;
 use crate::publisher::Publisher;
+use crate::stop::{Front, Stop};
 use std::alloc::Global;
 use std::marker::Model;
 use std::sync::Arc;
-use ty_account::{Account, Front, Named, Pen};
+use ty_account::{Account, Named, Pen, Spot};
 use ty_base::NoMemory;
 use ty_crumb::Crumb;
 
 /// A new account without entries, beside breadcrumb 0. Contracts see which account it is, and when it was made.
 #[derive(Drop)]
 pub struct Opening {
-    account: Account,
-    pen: Pen,
+    account: Account<Stop>,
+    pen: Pen<Stop>,
     front: Front,
-    crumb: Crumb,
+    spot: Spot<Stop>,
+    parcel: Arc<Parcel, Global>,
 }
 
 impl Model for Opening {
     ghost use Rattle.std.specs.Prelude.{◌≡◌, [], false};
-    ghost use Rattle.ty_account.specs.Known.{known};
+    ghost use Rattle.std.specs.Arc.{arc_value};
+    ghost use Rattle.ty_account.specs.Known.{known, standpoint};
     ghost use Rattle.ty_crumb.specs.Crumbs.{CrumbStands};
     ghost use Rattle.ty_chain.specs.Publishing.{Opened, opened};
 
     ghost Value = { Opened };
 
-    ghost view = { λ o. opened o.account o.crumb.at };
+    ghost view = { λ o. opened o.account (arc_value o.parcel).crumb.at };
 
-    ghost invariant = { λ o. (o.pen ≡ known o.account [] false) × (o.front ≡ known o.account [] false) × CrumbStands o.crumb [] };
+    ghost invariant = { λ o. (o.pen ≡ known o.account [] false) × (o.front ≡ known o.account [] false)
+        × (o.spot.account ≡ o.account) × (o.spot.entries ≡ []) × (arc_value o.spot.item.parcel ≡ arc_value o.parcel)
+        × CrumbStands (arc_value o.parcel).crumb [] };
 }
 
 impl Opening {
@@ -41,12 +45,14 @@ impl Opening {
     pub fn new(alloc: Global, at: u64) -> Result<Opening, NoMemory>
         ensures { IfOk result (λ o. o.at ≡ at) }
     {
-        let (account, pen, front) = Account::start(alloc)?;
+        let parcel = Arc::new(alloc, Parcel::new(alloc, Crumb::first(alloc, at))?)?;
+        let (account, pen, front, spot) = Account::start(alloc, Stop::of(&parcel)?)?;
         Ok(Opening {
             account,
             pen,
             front,
-            crumb: Crumb::first(alloc, at),
+            spot,
+            parcel,
         })
     }
 
@@ -72,11 +78,9 @@ pub fn start<L: Named>(
         account,
         pen,
         front,
-        crumb,
+        spot,
+        parcel,
     } = opening;
-    let parcel = Arc::new(alloc, Parcel::new(alloc, crumb)?)?;
-    let first = Place::new(Arc::try_clone(&parcel)?, front);
-    let chain = Chain::new(alloc, first)?;
-    let lobby = Lobby::over(chain.share()?, account);
-    Ok((lobby, Publisher::new(chain, pen, parcel)))
+    let lobby = Lobby::over(alloc, Place::new(spot.copy()?, front), account)?;
+    Ok((lobby, Publisher::new(pen, spot, parcel)))
 }

@@ -9,7 +9,7 @@ use ty_group::Encoded;
 
 /// A breadcrumb, as the chain hands it out, and beside it its deltas as bytes.
 #[derive(Drop)]
-pub(crate) struct Parcel {
+pub struct Parcel {
     pub crumb: Crumb,
     pub encoded: Encoded,
     ghost same: { encoded ≡ crumb.deltas },

@@ -1,23 +1,25 @@
 // A place in the chain.
 ghost use Rattle.std.specs.Prelude.{◌≡◌, ◌≤◌, length, IfOk};
 ghost use Rattle.std.specs.Arc.{arc_value};
+ghost use mathlib.Core.List.{IsPrefix};
 ghost use Rattle.ty_account.specs.Known.{KnowsMore};
-ghost use Rattle.ty_chain.specs.Shown.{Within};
+ghost use Rattle.ty_crumb.specs.Crumbs.{CrumbStands};
+ghost use Rattle.ty_chain.specs.Shown.{Within, shown_at};
+ghost use Rattle.ty_chain.specs.Following.{StepDone};
 
-use crate::parcel::Parcel;
-use std::alloc::Global;
+use crate::follower::Step;
+use crate::stop::{Front, Stop};
 use std::marker::{Model, PhantomData};
-use std::sync::Arc;
-use ty_account::{Account, Front, Look, Named, front_copy};
+use ty_account::{Account, Named, Spot, Walked, front_copy};
 use ty_base::NoMemory;
 use ty_crumb::Crumb;
 use ty_group::Encoded;
 
-/// A breadcrumb beside a front that knows the entries for which it stands. Contracts see the breadcrumb and what
+/// The node of a breadcrumb beside a front that knows the entries for which it stands. Contracts see the breadcrumb and what
 /// the front knows.
 #[derive(Drop)]
 pub(crate) struct Place<L: Named> {
-    parcel: Arc<Parcel, Global>,
+    spot: Spot<Stop>,
     front: Front,
     of: PhantomData<L>,
 }
@@ -25,7 +27,9 @@ pub(crate) struct Place<L: Named> {
 impl<L: Named> Model for Place<L> {
     ghost use Rattle.std.specs.Prelude.{◌≡◌};
     ghost use Rattle.std.specs.Arc.{arc_value};
-    ghost use Rattle.ty_chain.specs.Shown.{Shown, shown_at, Within};
+    ghost use mathlib.Core.List.{IsPrefix};
+    ghost use Rattle.ty_crumb.specs.Crumbs.{CrumbStands};
+    ghost use Rattle.ty_chain.specs.Shown.{Shown, shown_at};
     ghost use Rattle.std.specs.Coded.{codes};
     ghost use Rattle.ty_map.specs.steps.Code.{shape_code};
 
@@ -33,21 +37,22 @@ impl<L: Named> Model for Place<L> {
 
     ghost coded = { Prim.hlevel (codes, shape_code) };
 
-    ghost view = { λ p. shown_at (arc_value p.parcel).crumb p.front };
+    ghost view = { λ p. shown_at (arc_value p.spot.item.parcel).crumb p.front };
 
-    ghost invariant = { λ p. (p.front.account ≡ L.account) × Within (arc_value p.parcel).crumb p.front };
+    ghost invariant = { λ p. (p.spot.account ≡ L.account) × (p.front.account ≡ L.account)
+        × IsPrefix p.spot.entries p.front.entries × CrumbStands (arc_value p.spot.item.parcel).crumb p.spot.entries };
 }
 
 impl<L: Named> Place<L> {
-    /// The place of a breadcrumb, with a front that knows its entries.
-    pub fn new(parcel: Arc<Parcel, Global>, front: Front) -> Place<L>
-        requires account { front.account ≡ L.account }
-        requires within { Within (arc_value parcel).crumb front }
-        ensures crumb { result.crumb ≡ (arc_value parcel).crumb }
-        ensures known { result.known ≡ front }
+    /// The place of a spot, with a front that knows its entries.
+    pub fn new(spot: Spot<Stop>, front: Front) -> Place<L>
+        requires account { (spot.account ≡ L.account) × (front.account ≡ L.account) }
+        requires begins { IsPrefix spot.entries front.entries }
+        requires stands { CrumbStands (arc_value spot.item.parcel).crumb spot.entries }
+        ensures { result ≡ shown_at (arc_value spot.item.parcel).crumb front }
     {
         Place {
-            parcel,
+            spot,
             front,
             of: PhantomData,
         }
@@ -58,14 +63,14 @@ impl<L: Named> Place<L> {
         ensures crumb { result.now ≡ self.now.crumb }
         ensures stands { Within self.now.crumb self.now.known }
     {
-        &self.parcel.crumb
+        &self.spot.item().parcel.crumb
     }
 
     /// The breadcrumb's deltas as bytes.
     pub fn encoded(&self) -> &Encoded
         ensures { result.now ≡ self.now.crumb.deltas }
     {
-        &self.parcel.encoded
+        &self.spot.item().parcel.encoded
     }
 
     /// What is known of the account there.
@@ -76,29 +81,30 @@ impl<L: Named> Place<L> {
         &self.front
     }
 
-    /// The number of the breadcrumb.
-    #[tactic(auto, using(crate::proofs::Shown::within_number))]
-    pub fn number(&self) -> u64
-        ensures number { result ≡ self.now.crumb.number }
-        ensures within { self.now.crumb.number ≤ length self.now.known.entries }
-        ensures stands { Within self.now.crumb self.now.known }
+    /// One step from a place to the next, with the look of the step.
+    pub fn step(&mut self) -> Step
+        ensures { StepDone self.old self.new result }
     {
-        self.parcel.crumb.number
+        match self.spot.step(&mut self.front) {
+            Walked::Next => Step::Stepped,
+            Walked::Empty => Step::Pending,
+            Walked::Closed => Step::Ended,
+        }
     }
 
-    /// Looks at the account.
-    pub fn look(&mut self, account: &Account) -> Look
-        requires { account.now ≡ L.account }
-        ensures crumb { self.new.crumb ≡ self.old.crumb }
-        ensures more { KnowsMore self.old.known self.new.known }
-        ensures count { result.count ≡ length self.new.known.entries }
-        ensures closed { result.closed ≡ self.new.known.closed }
+    /// Goes to the place of this spot, with a front that knows its entries.
+    pub fn go_to(&mut self, spot: &Spot<Stop>, front: &Front)
+        requires account { (spot.now.account ≡ L.account) × (front.now.account ≡ L.account) }
+        requires begins { IsPrefix spot.now.entries front.now.entries }
+        requires stands { CrumbStands (arc_value spot.now.item.parcel).crumb spot.now.entries }
+        ensures { self.new ≡ shown_at (arc_value spot.now.item.parcel).crumb front.now }
     {
-        account.look(&mut self.front)
+        self.spot.move_to(spot);
+        self.front = front_copy(front);
     }
 
     /// Comes to know what another front knows.
-    pub fn meet(&mut self, account: &Account, front: &Front)
+    pub fn meet(&mut self, account: &Account<Stop>, front: &Front)
         requires account { account.now ≡ L.account }
         requires front { front.now.account ≡ L.account }
         ensures crumb { self.new.crumb ≡ self.old.crumb }
@@ -114,7 +120,7 @@ impl<L: Named> Place<L> {
         ensures { IfOk result (λ p. p ≡ self.now) }
     {
         Ok(Place {
-            parcel: Arc::try_clone(&self.parcel)?,
+            spot: self.spot.copy()?,
             front: front_copy(&self.front),
             of: PhantomData,
         })

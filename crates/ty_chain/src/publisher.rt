@@ -11,14 +11,15 @@ ghost use Rattle.ty_crumb.specs.Batches.{next_entries};
 ghost use Rattle.ty_crumb.specs.Crumbs.{CrumbStands, world_of};
 ghost use Rattle.ty_chain.specs.Publishing.{IsPublished, is_nothing_new, issued};
 ghost use Rattle.ty_chain.specs.Shown.{entry_by};
-ghost use Rattle.ty_chain.specs.steps.Issued.{IsIssued, grown};
+ghost use Rattle.ty_chain.specs.steps.Issued.{IsAtEnd, IsIssued, grown};
 
-use crate::chain::Chain;
 use crate::parcel::Parcel;
+use crate::place::Place;
+use crate::stop::{Front, Stop};
 use std::alloc::Global;
-use std::marker::Model;
-use std::sync::{Arc, Wait};
-use ty_account::{Front, Named, Pen};
+use std::marker::{Model, PhantomData};
+use std::sync::Arc;
+use ty_account::{Fresh, Named, Pen, Spot, Walked, front_copy};
 use ty_base::{Item, NoMemory};
 use ty_crumb::{Crumb, Made, next_crumb};
 
@@ -35,17 +36,20 @@ pub enum Published {
 /// items were published so far.
 #[derive(Drop)]
 pub struct Publisher<L: Named> {
-    chain: Chain<L>,
-    pen: Pen,
+    pen: Pen<Stop>,
+    // It stands at the last breadcrumb.
+    spot: Spot<Stop>,
     parcel: Arc<Parcel, Global>,
     cut: u64,
+    of: PhantomData<L>,
 }
 
 impl<L: Named> Model for Publisher<L> {
     ghost use Rattle.std.specs.Prelude.{◌≡◌};
     ghost use Rattle.std.specs.Arc.{arc_value};
     ghost use Rattle.ty_chain.specs.Publishing.{Issued, issued};
-    ghost use Rattle.ty_chain.specs.steps.Issued.{IsIssued};
+    ghost use Rattle.ty_crumb.specs.Crumbs.{CrumbStands};
+    ghost use Rattle.ty_chain.specs.steps.Issued.{IsAtEnd, IsIssued};
     ghost use Rattle.std.specs.Coded.{codes};
     ghost use Rattle.ty_map.specs.steps.Code.{shape_code};
 
@@ -55,22 +59,50 @@ impl<L: Named> Model for Publisher<L> {
 
     ghost view = { λ p. issued (arc_value p.parcel).crumb p.pen p.cut };
 
-    ghost invariant = { λ p. (p.pen.account ≡ L.account) × IsIssued (issued (arc_value p.parcel).crumb p.pen p.cut) };
+    ghost invariant = { λ p. (p.pen.account ≡ L.account) × IsIssued (issued (arc_value p.parcel).crumb p.pen p.cut)
+        × IsAtEnd p.pen p.spot × CrumbStands (arc_value p.spot.item.parcel).crumb p.spot.entries };
+}
+
+// Enters what the breadcrumb adds, with its node, and goes there. It takes no memory.
+fn enter(pen: &mut Pen<Stop>, spot: &mut Spot<Stop>, parcel: &Parcel, node: Fresh<Stop>)
+    requires end { IsAtEnd pen.old spot.old }
+    requires room { length pen.old.entries < INPUT_BYTES }
+    requires same { (arc_value node.item.parcel).crumb ≡ parcel.now.crumb }
+    requires stands { CrumbStands parcel.now.crumb (pen.old.entries ++ entry_by parcel.now.crumb ∷ []) }
+    ensures entered { pen.new ≡ known pen.old.account (pen.old.entries ++ entry_by parcel.now.crumb ∷ []) false }
+    ensures end { IsAtEnd pen.new spot.new }
+    ensures stands { CrumbStands (arc_value spot.new.item.parcel).crumb spot.new.entries }
+{
+    pen.enter_as(parcel, node);
+    let mut front = front_copy(pen.front());
+    match spot.step(&mut front) {
+        Walked::Next => {}
+        Walked::Empty => unreachable!(),
+        Walked::Closed => unreachable!(),
+    }
 }
 
 impl<L: Named> Publisher<L> {
     // A publisher that has published nothing.
-    pub(crate) fn new(chain: Chain<L>, pen: Pen, parcel: Arc<Parcel, Global>) -> Publisher<L>
+    pub(crate) fn new(pen: Pen<Stop>, spot: Spot<Stop>, parcel: Arc<Parcel, Global>) -> Publisher<L>
         requires account { pen.account ≡ L.account }
         requires begun { IsIssued (issued (arc_value parcel).crumb pen 0) }
+        requires end { IsAtEnd pen spot }
+        requires stands { CrumbStands (arc_value spot.item.parcel).crumb spot.entries }
         ensures { result ≡ issued (arc_value parcel).crumb pen 0 }
     {
         Publisher {
-            chain,
             pen,
+            spot,
             parcel,
             cut: 0,
+            of: PhantomData,
         }
+    }
+
+    // The place goes to the last breadcrumb.
+    pub(crate) fn post_at(&self, place: &mut Place<L>) {
+        place.go_to(&self.spot, self.pen.front());
     }
 
     /// The last breadcrumb, which stands for the whole list.
@@ -100,10 +132,9 @@ impl<L: Named> Publisher<L> {
 
     /// Publishes one batch at a time in milliseconds: its items are counted, and where they change map or status, the
     /// list grows by the entry of the next breadcrumb, which lies at the chain's end then. Before the list grows all
-    /// memory is taken, and want of memory leaves everything as it was. It waits for a lock.
-    pub fn publish<R: Wait>(
+    /// memory is taken, and want of memory leaves everything as it was. It waits for nobody.
+    pub fn publish(
         &mut self,
-        rt: &R,
         alloc: Global,
         items: &[Item],
         now: u64,
@@ -127,20 +158,14 @@ impl<L: Named> Publisher<L> {
             }
             Made::Crumb(next) => {
                 let number = next.number;
-                self.issue(rt, alloc, next, cut)?;
+                self.issue(alloc, next, cut)?;
                 Ok(Published::Crumb(number))
             }
         }
     }
 
     // Puts the next breadcrumb at the chain's end.
-    fn issue<R: Wait>(
-        &mut self,
-        rt: &R,
-        alloc: Global,
-        next: Crumb,
-        cut: u64,
-    ) -> Result<(), NoMemory>
+    fn issue(&mut self, alloc: Global, next: Crumb, cut: u64) -> Result<(), NoMemory>
         requires room { length self.old.known.entries < INPUT_BYTES }
         requires stands { CrumbStands next (self.old.known.entries ++ entry_by next ∷ []) }
         requires behind { next.cut ≤ cut }
@@ -149,24 +174,25 @@ impl<L: Named> Publisher<L> {
         ensures same { OnErr result (self.new ≡ self.old) }
     {
         let parcel = Arc::new(alloc, Parcel::new(alloc, next)?)?;
-        let copy = Arc::try_clone(&parcel)?;
-        self.chain.append(rt, &mut self.pen, copy)?;
+        let node = Fresh::new(alloc, Stop::of(&parcel)?)?;
+        enter(&mut self.pen, &mut self.spot, &parcel, node);
         self.parcel = parcel;
         self.cut = cut;
         Ok(())
     }
 
-    /// Closes the account, and gives the front that knows the whole list. It waits for a lock.
-    pub fn close<R: Wait>(self, rt: &R) -> Front
+    /// Closes the account, and gives the front that knows the whole list. It waits for nobody.
+    pub fn close(self) -> Front
         ensures whole { result ≡ known self.known.account self.known.entries true }
         ensures account { result.account ≡ L.account }
     {
         let Publisher {
-            chain,
             pen,
+            spot: _,
             parcel: _,
             cut: _,
+            of: _,
         } = self;
-        chain.close(rt, pen)
+        pen.close()
     }
 }

@@ -7,15 +7,15 @@ ghost use Rattle.ty_base.specs.Passing.{item_passes};
 ghost use Rattle.ty_base.specs.Limits.{key_fits, value_fits, items_fit};
 ghost use Rattle.ty_base.specs.Batches.{IsBatch};
 
-use crate::{Follower, Lobby, Opening, Published, Publisher, Step, agree, start};
+use crate::{Follower, Front, Lobby, Opening, Published, Publisher, Step, agree, start};
 use std::alloc::{AllocError, Global};
 use std::marker::Brand;
 use std::process::Abort;
 use std::sync::Wait;
 use std::test::Fail;
 use std::thread::{Threads, join, map_indices, yield_now};
-use ty_account::{Front, Named, front_copy};
-use ty_base::{Item, NoMemory, Text, print_u64, status_text};
+use ty_account::{Named, front_copy};
+use ty_base::{Item, NoMemory, Status, Text, print_u64, status_text};
 use ty_crumb::Crumb;
 
 fn is_update(item: &Item) -> bool
@@ -62,23 +62,33 @@ fn is_batch(items: &[Item]) -> bool
     all_update(&items[..front]) && all_fit(items)
 }
 
-// Publishes `key` with a value as one batch. None where it can't.
-fn put<L: Named, R: Wait>(
-    rt: &R,
+// Publishes one item as one batch. None where it can't.
+fn publish<L: Named>(
+    alloc: Global,
+    publisher: &mut Publisher<L>,
+    item: Item,
+    now: u64,
+) -> Result<Option<Published>, NoMemory> {
+    let mut items = Vec::new(alloc);
+    items.push(item)?;
+    if !is_batch(&items) || publisher.cut() >= (1 << 40) - 100 {
+        return Ok(None);
+    }
+    Ok(Some(publisher.publish(alloc, &items, now)?))
+}
+
+// Publishes a key with a value.
+fn put<L: Named>(
     alloc: Global,
     publisher: &mut Publisher<L>,
     pair: (&str, &str),
     now: u64,
 ) -> Result<Option<Published>, NoMemory> {
-    let mut items = Vec::new(alloc);
-    items.push(Item::Put {
+    let item = Item::Put {
         key: Text::of(alloc, pair.0)?,
         value: Text::of(alloc, pair.1)?,
-    })?;
-    if !is_batch(&items) || publisher.cut() >= (1 << 40) - 100 {
-        return Ok(None);
-    }
-    Ok(Some(publisher.publish(rt, alloc, &items, now)?))
+    };
+    publish(alloc, publisher, item, now)
 }
 
 // The breadcrumb as a text: its number, cut and status, and its pairs.
@@ -99,33 +109,30 @@ fn told(alloc: Global, crumb: &Crumb) -> Result<Vec<u8>, NoMemory> {
 }
 
 // What a step comes to, with the number and the time of the breadcrumb at which the follower then stands.
-fn step<L: Named, R: Wait>(
-    rt: &R,
-    follower: &mut Follower<L>,
-) -> Result<(Step, u64, u64), NoMemory> {
-    let step = follower.step(rt)?;
+fn step<L: Named>(follower: &mut Follower<L>) -> (Step, u64, u64) {
+    let step = follower.step();
     let crumb = follower.crumb();
-    Ok((step, crumb.number, crumb.at))
+    (step, crumb.number, crumb.at)
 }
 
-fn first_steps<L: Named, R: Wait + Abort>(
+fn first_steps<L: Named, R: Abort>(
     rt: &R,
     alloc: Global,
     publisher: &mut Publisher<L>,
     follower: &mut Follower<L>,
 ) -> Result<(), Fail> {
-    assert_eq!(rt; step(rt, follower)?, (Step::Pending, 0, 0));
+    assert_eq!(rt; step(follower), (Step::Pending, 0, 0));
     assert_eq!(rt;
-        put(rt, alloc, publisher, ("a", "1"), 5)?,
+        put(alloc, publisher, ("a", "1"), 5)?,
         Some(Published::Crumb(1))
     );
     assert_eq!(rt;
-        put(rt, alloc, publisher, ("a", "1"), 5)?,
+        put(alloc, publisher, ("a", "1"), 5)?,
         Some(Published::Unchanged)
     );
     assert_eq!(rt; publisher.cut(), 2);
-    assert_eq!(rt; step(rt, follower)?, (Step::Stepped, 1, 5));
-    assert_eq!(rt; step(rt, follower)?, (Step::Pending, 1, 5));
+    assert_eq!(rt; step(follower), (Step::Stepped, 1, 5));
+    assert_eq!(rt; step(follower), (Step::Pending, 1, 5));
     Ok(())
 }
 
@@ -150,10 +157,10 @@ fn follow_to_the_end<L: Named, R: Wait + Abort>(
 ) -> Result<(), Fail> {
     let stepped = first_steps(rt, alloc, &mut publisher, follower);
     let met = meets_late(rt, lobby, &publisher, follower);
-    publisher.close(rt);
+    publisher.close();
     stepped?;
     assert_eq!(rt; met, Ok(true));
-    assert_eq!(rt; step(rt, follower)?, (Step::Ended, 1, 5));
+    assert_eq!(rt; step(follower), (Step::Ended, 1, 5));
     Ok(())
 }
 
@@ -182,9 +189,9 @@ fn post_three<L: Named, R: Wait>(
     publisher: &mut Publisher<L>,
 ) -> Result<u64, NoMemory> {
     lobby.post(rt, publisher);
-    put(rt, alloc, publisher, ("a", "1"), 1)?;
+    put(alloc, publisher, ("a", "1"), 1)?;
     lobby.post(rt, publisher);
-    put(rt, alloc, publisher, ("b", "1"), 2)?;
+    put(alloc, publisher, ("b", "1"), 2)?;
     lobby.post(rt, publisher);
     Ok(lobby.enter(rt, publisher.front())?.crumb().number)
 }
@@ -203,42 +210,47 @@ fn a_new_follower_stands_at_what_was_posted_last(rt: HostRuntime) -> Result<(), 
     Ok(())
 }
 
-// Publishes so many breadcrumbs, each of which puts the key.
-fn publish_many<L: Named, R: Wait>(
-    rt: &R,
+// Publishes so many breadcrumbs, each with another status than the one before.
+fn publish_many<L: Named>(
     alloc: Global,
     publisher: &mut Publisher<L>,
     count: u64,
 ) -> Result<(), NoMemory> {
     for i in 0..count {
-        let value = if i % 2 == 0 { "0" } else { "1" };
-        put(rt, alloc, publisher, ("a", value), i)?;
+        let status = if i % 2 == 0 {
+            Status::InSync
+        } else {
+            Status::Resync
+        };
+        publish(alloc, publisher, Item::State(status), i)?;
     }
     Ok(())
 }
 
+// The numbers of the last breadcrumb, and of the one at which a follower stands who is dropped last.
 fn publish_and_drop<L: Named, R: Wait>(
     rt: &R,
     alloc: Global,
     opening: Opening,
-) -> Result<u64, NoMemory>
+) -> Result<(u64, u64), NoMemory>
     requires { opening.account ≡ L.account }
 {
     let (lobby, mut publisher) = start::<L>(alloc, opening)?;
-    let published = publish_many(rt, alloc, &mut publisher, 10_000);
+    let follower = lobby.enter(rt, publisher.front())?;
+    let published = publish_many(alloc, &mut publisher, 100_000);
     let number = publisher.crumb().number;
     drop(publisher);
     drop(lobby);
     published?;
-    Ok(number)
+    Ok((number, follower.crumb().number))
 }
 
 #[test]
-fn a_chain_of_ten_thousand_is_dropped(rt: HostRuntime) -> Result<(), Fail> {
+fn a_chain_of_a_hundred_thousand_is_dropped(rt: HostRuntime) -> Result<(), Fail> {
     let opening = Opening::new(rt.alloc(), 0)?;
     assert_eq!(rt;
         publish_and_drop::<Brand, _>(&rt, rt.alloc(), opening),
-        Ok(10_000)
+        Ok((100_000, 0))
     );
     Ok(())
 }
@@ -250,7 +262,7 @@ fn follow<L: Named, R: Wait>(
     follower: &mut Follower<L>,
 ) -> Result<Vec<u8>, NoMemory> {
     for _ in rt.forever() {
-        match follower.step(rt)? {
+        match follower.step() {
             Step::Stepped => {}
             Step::Pending => yield_now(),
             Step::Ended => return told(alloc, follower.crumb()),
@@ -271,7 +283,7 @@ fn enter_and_follow<L: Named, R: Wait>(
     follow(rt, alloc, &mut follower)
 }
 
-// Four threads, each with a follower from breadcrumb 0 to the end.
+// Eight threads, each with a follower from breadcrumb 0 to the end.
 fn follow_in_threads<L: Named + Send + Sync, R: Threads + Wait + Sync>(
     rt: &R,
     alloc: Global,
@@ -283,7 +295,7 @@ fn follow_in_threads<L: Named + Send + Sync, R: Threads + Wait + Sync>(
     map_indices(
         rt,
         alloc,
-        4,
+        8,
         &|_| -> Result<Vec<u8>, NoMemory>
             requires { front.now.account ≡ L.account }
         { enter_and_follow(rt, alloc, lobby, front) },
@@ -291,18 +303,17 @@ fn follow_in_threads<L: Named + Send + Sync, R: Threads + Wait + Sync>(
 }
 
 // Publishes so many breadcrumbs, and closes the chain whether it could or not.
-fn publish_and_close<L: Named, R: Wait>(
-    rt: &R,
+fn publish_and_close<L: Named>(
     alloc: Global,
     mut publisher: Publisher<L>,
     count: u64,
 ) -> Result<(), NoMemory> {
-    let published = publish_many(rt, alloc, &mut publisher, count);
-    publisher.close(rt);
+    let published = publish_many(alloc, &mut publisher, count);
+    publisher.close();
     published
 }
 
-// What four followers tell at the end, who step while this thread publishes and closes.
+// What eight followers tell at the end, who step while this thread publishes and closes.
 fn follow_the_publisher<L: Named + Send + Sync, R: Threads + Wait + Sync>(
     rt: &R,
     alloc: Global,
@@ -317,7 +328,7 @@ fn follow_the_publisher<L: Named + Send + Sync, R: Threads + Wait + Sync>(
         || -> Result<Vec<Result<Vec<u8>, NoMemory>>, AllocError>
             requires { IsSync R.row × (IsSend L.row × (IsSync L.row × (front.now.account ≡ L.account))) }
         { follow_in_threads(rt, alloc, lobby, front) },
-        || publish_and_close(rt, alloc, publisher, 200),
+        || publish_and_close(alloc, publisher, 100_000),
     );
     published?;
     Ok(told?)
@@ -336,12 +347,12 @@ fn fan_out<L: Named + Send + Sync, R: Threads + Wait + Sync>(
 }
 
 #[test]
-fn followers_in_four_threads_end_at_one_breadcrumb(rt: HostRuntime) -> Result<(), Fail> {
+fn followers_in_eight_threads_end_at_one_breadcrumb(rt: HostRuntime) -> Result<(), Fail> {
     let opening = Opening::new(rt.alloc(), 0)?;
     let told = fan_out::<Brand, _>(&rt, rt.alloc(), opening)?;
-    assert_eq!(rt; told.len(), 4);
+    assert_eq!(rt; told.len(), 8);
     for one in told {
-        assert!(rt; one?.as_slice() == b"200 200 wait-for-ready a=1".as_slice());
+        assert!(rt; one?.as_slice() == b"100000 100000 resync".as_slice());
     }
     Ok(())
 }

@@ -11,9 +11,9 @@ ghost use Rattle.ty_feed.specs.steps.Reading.{AreDue, HavePublished, HasReadTo, 
 use crate::ending::FeedEnd;
 use std::alloc::Global;
 use std::sync::Wait;
-use ty_account::{Front, Named};
+use ty_account::Named;
 use ty_base::{Clock, INPUT_BYTES, NoMemory, PIECE_BYTES, Source};
-use ty_chain::{Lobby, Publisher};
+use ty_chain::{Front, Lobby, Publisher};
 use ty_intake::{Closed, Intake, IntakeFault};
 
 /// Reads a feed from a source to its end, at most `PIECE_BYTES` at a time, and publishes each batch as it closes, at the
@@ -36,7 +36,7 @@ pub fn publish_all<R: Wait, N: Named, S: Source, C: Clock>(
 {
     let mut publisher = publisher;
     let end = publish_source(rt, alloc, source, lobby, &mut publisher, clock);
-    (end, publisher.close(rt))
+    (end, publisher.close())
 }
 
 // The same without closing the chain.
@@ -181,7 +181,7 @@ fn publish_batch<R: Wait, N: Named, C: Clock>(
         → IsBookOf publisher.old before → IsBookOf publisher.new (before ++ batch.now.items)) }
     ensures same { OnErr result (publisher.new ≡ publisher.old) }
 {
-    match publisher.publish(rt, alloc, batch.items.as_slice(), clock.now()) {
+    match publisher.publish(alloc, batch.items.as_slice(), clock.now()) {
         Ok(_) => {
             lobby.post(rt, publisher);
             Ok(())

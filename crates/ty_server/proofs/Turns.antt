@@ -12,7 +12,7 @@ use Rattle.ty_account.proofs.Prefixes.{prefix_self, prefix_trans, prefix_shorter
 use Rattle.ty_crumb.specs.Crumbs.{CrumbStands}
 use Rattle.ty_crumb.specs.declared.crumb.Crumb.{Crumb}
 use Rattle.ty_chain.specs.Shown.{Shown}
-use Rattle.ty_chain.specs.Following.{Moves, StepDone, SawMore}
+use Rattle.ty_chain.specs.Following.{Moves, StepDone}
 use Rattle.ty_chain.specs.declared.follower.Step.TheVariants.{Pending, Ended}
 use Rattle.ty_marks.specs.Marks.{group, bytes_of}
 use Rattle.ty_marks.proofs.Marks.{messages_of-more}
@@ -115,7 +115,7 @@ module _ (now : ℕ) (sent heard : List ℕ) (a b : LinkSeen) (f g : Shown) (v w
     follows = p.follows;
     queued = p.queued;
     begins = subst (λ (l : List Entry). IsPrefix l g.known.entries) (sym p.entries) begins;
-    answered = inl p.spent;
+    answered = p.spent;
   }
 
 known_more : (f g : Known) (s : Story) → KnowsMore f g → IsPrefix s.entries f.entries → IsPrefix s.entries g.entries
@@ -309,23 +309,8 @@ steps_unsent now a f g v w NoMemory m left leaves short = record {
         follows = run.follows;
         queued = run.queued;
         begins = known_more f.known g.known s m.more r.begins;
-        answered = inl run.spent;
+        answered = run.spent;
       };
-}
-
-pub steps_unseen : (now : ℕ) (a : LinkSeen) (f g : Shown) (v : SessionHeld) → SawMore f g → Steps now a a f g v v (Err NoMemory)
-steps_unseen now a f g v saw = record {
-  sent = [];
-  heard = [];
-  exchanged = exchanged_still a;
-  knows_more = saw.0.0;
-  turned = λ s st r. record {
-    story = s;
-    follows = follows_self now s st.marks;
-    queued = st.queued;
-    begins = known_more f.known g.known s saw.0.0 r.begins;
-    answered = inr saw;
-  };
 }
 
 -- ---- the whole turn
@@ -437,7 +422,7 @@ module _ (gives : ℕ → Type 0) (now : ℕ) (a b : LinkSeen) (f : Shown) (v w 
           follows = one.1.follows;
           queued = one.1.queued;
           begins = subst (λ (l : List Entry). IsPrefix l f.known.entries) (sym one.1.entries) begins;
-          answered = inl one.1.spent;
+          answered = one.1.spent;
         };
   }
 

@@ -6,7 +6,7 @@ use Rattle.ty_base.specs.declared.entry.Entry.{Entry}
 use Rattle.ty_base.specs.declared.text.NoMemory.{NoMemory}
 use Rattle.ty_account.specs.Known.{KnowsMore}
 use Rattle.ty_chain.specs.Shown.{Shown}
-use Rattle.ty_chain.specs.Following.{Moves, StepDone, SawMore}
+use Rattle.ty_chain.specs.Following.{Moves, StepDone}
 use Rattle.ty_chain.specs.declared.follower.Step.TheVariants.{Pending, Ended}
 use Rattle.ty_session.specs.Story.{Story}
 use Rattle.ty_session.specs.Held.{SessionHeld, IsQueued, SessionStands}
@@ -55,13 +55,13 @@ module _ (now : ℕ) (sent heard : List ℕ) (a b : LinkSeen) (f g : Shown) (v w
     pub all_said : IsAllSaid t
     pub heard_in_time : is_silent t.stance.heard now ≡ false
 
-  -- memory ran out at the session, which is spent, or at the step, which found a later entry
+  -- memory ran out at the session, which is spent
   abbrev pub Answered : Result Turn NoMemory → Type 0
   Answered (Ok Sent) = IsSent
   Answered (Ok Idle) = IsIdle
   Answered (Ok (Over reason)) = IsLeft reason w t
       × IsCause now s heard a b (λ made. made ≡ g.crumb.at) (HasFinished f g t) reason
-  Answered (Err e) = (w.spent ≡ true) ⊎ SawMore f g
+  Answered (Err e) = w.spent ≡ true
 
 -- at every answer: what was said so far are the first bytes of marks over entries that the follower knows, and what is queued is the rest
 pub record Turned (now : ℕ) (sent heard : List ℕ) (a b : LinkSeen) (f g : Shown) (v w : SessionHeld) (result : Result Turn NoMemory) (s : Story) : Type 0 where

@@ -12,9 +12,9 @@ use std::marker::Brand;
 use std::mem;
 use std::sync::Wait;
 use std::thread::{Threads, for_each_mut, join_mut};
-use ty_account::{Front, Named, front_copy};
+use ty_account::{Named, front_copy};
 use ty_base::{Clock, Door, NoMemory, Source};
-use ty_chain::{Lobby, Opening, Publisher, start};
+use ty_chain::{Front, Lobby, Opening, Publisher, start};
 use ty_feed::{FeedEnd, publish_all};
 
 /// The most doors of a server.

@@ -12,9 +12,9 @@ use crate::greeting::greet;
 use crate::turning::turn;
 use std::alloc::Global;
 use std::sync::Wait;
-use ty_account::{Front, Named};
+use ty_account::Named;
 use ty_base::{Clock, Link, NoMemory};
-use ty_chain::Lobby;
+use ty_chain::{Front, Lobby};
 use ty_session::{Gone, Reason, Session};
 
 /// Serves one client to its end: waits for its hello, enters at the breadcrumb that is posted in the lobby, and
@@ -45,7 +45,7 @@ pub fn serve_client<R: Wait, N: Named, L: Link, C: Clock>(
     let mut follower = lobby.enter(rt, front)?;
     session.join(alloc, follower.crumb(), clock.now())?;
     for _ in rt.forever() {
-        let Ok(turn) = turn(rt, alloc, &mut session, &mut follower, link, clock) else {
+        let Ok(turn) = turn(alloc, &mut session, &mut follower, link, clock) else {
             lobby.meet(front, follower.front());
             return Err(NoMemory);
         };

@@ -84,7 +84,7 @@ fn run_once<R: Wait, N: Named>(
     requires { opening.account ≡ N.account }
 {
     let (lobby, publisher) = start::<N>(alloc, opening)?;
-    let mut worker = Worker::new(1, publisher.close(rt));
+    let mut worker = Worker::new(1, publisher.close());
     let ran = worker.run(rt, alloc, &lobby, door, &SetClock::new(0));
     Ok((ran, worker.short()))
 }

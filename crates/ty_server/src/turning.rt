@@ -13,7 +13,6 @@ use crate::answers::Turn;
 use crate::giving::give_queued;
 use crate::listening::{leave, listen, look, tick};
 use std::alloc::Global;
-use std::sync::Wait;
 use ty_account::Named;
 use ty_base::{Clock, Link, NoMemory};
 use ty_chain::{Follower, Step};
@@ -21,10 +20,9 @@ use ty_session::{Gone, Reason, Session};
 
 /// One turn at a client that has joined the follower's breadcrumb. It looks for the client's bytes where that is
 /// due, and gives all that is queued. Then the follower steps once: the next breadcrumb is offered, or where there
-/// is none, all is given and the client's bytes are looked for. The clock is asked once, in milliseconds. The step
-/// waits for a lock. After want of memory what was given are the first bytes of the talk still.
-pub fn turn<R: Wait, N: Named, L: Link, C: Clock>(
-    rt: &R,
+/// is none, all is given and the client's bytes are looked for. The clock is asked once, in milliseconds. Only the
+/// session wants memory, and after its want what was given are the first bytes of the talk still.
+pub fn turn<N: Named, L: Link, C: Clock>(
     alloc: Global,
     session: &mut Session,
     follower: &mut Follower<N>,
@@ -43,7 +41,7 @@ pub fn turn<R: Wait, N: Named, L: Link, C: Clock>(
 {
     let now = clock.now();
     match attend(alloc, session, link, now) {
-        Ok(()) => answer(step(rt, alloc, session, follower, link, now)),
+        Ok(()) => answer(step(alloc, session, follower, link, now)),
         Err(gone) => answer(Err(gone)),
     }
 }
@@ -93,8 +91,7 @@ fn listen_if_due<L: Link>(
     }
 }
 
-fn step<R: Wait, N: Named, L: Link>(
-    rt: &R,
+fn step<N: Named, L: Link>(
     alloc: Global,
     session: &mut Session,
     follower: &mut Follower<N>,
@@ -107,11 +104,10 @@ fn step<R: Wait, N: Named, L: Link>(
     ensures idle { OnIdle result (HasLess (link_seen (L.sight link.old) (L.count link.old))
         (link_seen (L.sight link.new) (L.count link.new))) }
 {
-    match follower.step(rt) {
-        Ok(Step::Stepped) => send(alloc, session, follower, now),
-        Ok(Step::Pending) => rest(alloc, session, link, now),
-        Ok(Step::Ended) => finish(alloc, session, link),
-        Err(_) => Err(Gone::NoMemory),
+    match follower.step() {
+        Step::Stepped => send(alloc, session, follower, now),
+        Step::Pending => rest(alloc, session, link, now),
+        Step::Ended => finish(alloc, session, link),
     }
 }
 

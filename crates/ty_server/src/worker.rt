@@ -9,9 +9,9 @@ ghost use Rattle.ty_server.specs.steps.Visits.{served_in, short_in, IsVisit};
 use crate::serving::serve_client;
 use std::alloc::Global;
 use std::sync::Wait;
-use ty_account::{Front, Named};
+use ty_account::Named;
 use ty_base::{Came, Clock, Door};
-use ty_chain::Lobby;
+use ty_chain::{Front, Lobby};
 
 /// The most links of one run.
 pub const MOST_LINKS: u64 = 1 << 40;

@@ -1,6 +1,6 @@
 -- What a publisher keeps.
 use Rattle.std.specs.Prelude.{ℕ, ◌≡◌, ◌≤◌, ◌++◌, ◌∷◌, [], false}
-use Rattle.ty_account.specs.Known.{Known, known}
+use Rattle.ty_account.specs.Known.{Known, Standpoint, known}
 use Rattle.ty_crumb.specs.declared.crumb.Crumb.{Crumb}
 use Rattle.ty_crumb.specs.Crumbs.{CrumbStands}
 use Rattle.ty_chain.specs.Shown.{entry_by}
@@ -16,3 +16,7 @@ pub record IsIssued (i : Issued) : Type 0 where
 -- what is issued once the list grew by the entry of the next breadcrumb
 abbrev pub grown : Crumb → Known → ℕ → Issued
 grown next k cut = issued next (known k.account (k.entries ++ entry_by next ∷ []) false) cut
+
+-- the spot is at the end of the list
+abbrev pub IsAtEnd : {X : Type 0} → Known → Standpoint X → Type 0
+IsAtEnd k spot = (spot.account ≡ k.account) × (spot.entries ≡ k.entries)

@@ -5,7 +5,6 @@ use Rattle.ty_base.specs.Drops.{is_silent}
 use Rattle.ty_base.specs.declared.text.NoMemory.{NoMemory as Want}
 use Rattle.ty_account.specs.Known.{KnowsMore}
 use Rattle.ty_chain.specs.Shown.{Shown}
-use Rattle.ty_chain.specs.Following.{SawMore}
 use Rattle.ty_session.specs.Story.{Story}
 use Rattle.ty_session.specs.Held.{SessionHeld, IsQueued, SessionStands}
 use Rattle.ty_session.specs.declared.phase.Phase.TheVariants.{Joined}
@@ -32,7 +31,7 @@ module _ (now : ℕ) (sent heard : List ℕ) (a b : LinkSeen) (f g : Shown) (v w
   StepAnswered (Ok (Over reason)) = ⊥
   StepAnswered (Err (Left reason)) = IsLeft reason w t
       × IsCause now s heard a b (λ made. made ≡ g.crumb.at) (HasFinished f g t) reason
-  StepAnswered (Err NoMemory) = (w.spent ≡ true) ⊎ SawMore f g
+  StepAnswered (Err NoMemory) = w.spent ≡ true
 
 pub record StepTurned (now : ℕ) (sent heard : List ℕ) (a b : LinkSeen) (f g : Shown) (v w : SessionHeld) (result : Result Turn Gone) (s : Story) : Type 0 where
   pub story : Story

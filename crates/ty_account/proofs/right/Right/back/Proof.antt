@@ -1,40 +1,28 @@
--- `back` writes a token, which owns what the step gained.
-use Rattle.std.proofs.Common.{◌≡◌, [], ◌∷◌, length, refl, Some}
-use types.Kit.{‵, raw, ◌⊛◌, given, ◌$◌, ◌∵◌, !, qed, done, keep, move, split, fsplit, fjoin, learn, suffices, use1}
-use types.Run.{enter, no_more, and_then, returns}
-use types.ByLocal.{alloc_all, pass_all, free_all, look_at, get, sets}
-use types.Part.{agg}
-use denote.Exit.{yes}
-use denote.RattleType.{owns}
-use denote.Signature.{plain, types_at}
-use denote.Steps.{nothing}
-use denote.Triple.Entry.{alive}
-use denote.Triple.Walked.{Stays, walk_of, says, stay_dropped, Goes-dropped, ends_at}
-use Rattle.std.proofs.raw_atomic.Walks.{proved}
-use Rattle.logbook.proofs.Fields.{token, token_told}
-use Rattle.ty_account.specs.contracts.right.Right as Right
-use Rattle.ty_account.specs.contracts.right.Right.back as f
-use Rattle.ty_account.specs.steps.Rights.{count_after}
-use Rattle.ty_account.proofs.Tokens.{GainedRow, Gains, right, gain_taken}
+-- `back` takes the right out of what the step gained.
+use Rattle.ty_account.proofs.Walking.{[], ◌∷◌, refl, Val, a_type, dcons, dnil, inst_fn, SProp, emp, tables, ‵, raw, ◌⊛◌, ◌$◌, ◌∵◌, !, qed, by, move, keep, drop, split, fsplit, fjoin, fpick, use0, no_more, and_then, returns, enter, alloc_all, pass_all, free_all, look_at, get, sets, agg, RattleType, owns, types_at, unit, no, plain, nothing, alive, fact_i, Stays, stay_dropped, Goes-dropped, walk_of, proved, token, Token, token_told, token_made, ends, param, bounded}
+use Rattle.std.specs.Prelude.{Some, length}
+use Rattle.ty_account.specs.contracts.right.Entering as Entering
+use Rattle.ty_account.specs.contracts.right.EnteringGainMarkReply.TheImpl as entering
+use Rattle.ty_account.proofs.Rows.{GainedRow, Gains}
+use Rattle.ty_account.specs.contracts.right.Right.back.{ended, clauses}
+use Rattle.ty_account.specs.contracts.right.Right.back.Key.{name as #self}
 use Rattle.ty_account.proofs.right.Right.back.Statement.{statement}
 use Rattle.ty_account.proofs.right.Right.back.Code as code
 
-abbrev stayed : Stays f.ended.signature.params f.ended.kept
-stayed = (stay_dropped (plain (λ _. GainedRow)) yes, tt)
-
 pub back_spec : {M : Type 1} → statement M
-back_spec 𝓤 𝓛 𝓜 𝓡 wired =
-    let c = f.clauses 𝓛 𝓜.mem 𝓡.returns in
-    proved 𝓛 f.ended stayed c 𝓜 𝓡 (Goes-dropped 𝓛 0 (plain (λ _. GainedRow)) yes (λ κs x w. refl), tt) f.Key.name code.function (code.unfolded 𝓤 𝓛.H 𝓜 𝓡 wired)
-    (λ κs. ((λ x. token ∷ []), tt)) (λ κs. ((λ x vs is. token_told Gains vs is.0), tt)) (λ κs qs bounds a ghost are.
-    let gained = a.0 in let held = Some (count_after gained.answer.added (length gained.about)) in let back = right gained.names held in
-    let y : (walk_of 𝓛 f.ended stayed c).Ghost = ((κs, qs, bounds, a, (token ∷ [], tt)), ghost) in
-    qed 𝓛 ((raw (alive 𝓛 f.signature κs qs) ⊛ ‵ (owns (types_at f.signature.params κs) a y.0.4)) ∷ raw ((c κs a).requires ghost) ∷ []) ∵
-    split ! $ move ! (1 ∷ []) $ fsplit ! $ keep ! (0 ∷ []) $
-    use1 𝓛 (given (gained.answer.found ≡ length gained.about) (‵ (Right.the_row.own_val back (token ∷ [])))) (gain_taken 𝓛 gained) $ learn ! (λ found.
-    -- [the right]
-    enter ! _ _ _ _ _ $ alloc_all ! (λ l. pass_all ! refl ((tt, (tt, tt)), tt) $
+back_spec 𝓤 𝓛 𝓜 𝓡 wired T L g d _ =
+    let H = 𝓛.H in let 𝓣 = tables 𝓤 H 𝓜 𝓡 𝓡.env in let R : RattleType = param 0 T in let G : RattleType = GainedRow R g Entering.the_row (entering.ghosts R g entering.no_dict) in let En = ended T g d in
+    let inst = bounded (a_type ∷ []) (T, tt) (dcons d dnil) in let fn = inst_fn inst code.function in let c = clauses T g d 𝓛 𝓜.mem 𝓡.returns in
+    let hs : Stays En.signature.params En.kept = (stay_dropped (plain (λ _. G)) no, tt) in
+    proved 𝓛 En hs c 𝓜 𝓡 (Goes-dropped 𝓛 1 (plain (λ _. G)) no (λ κs x f. refl), tt) (#self inst) fn (code.unfolded 𝓤 H 𝓜 𝓡 wired (T, tt) d)
+    (λ κs. ((λ x. token ∷ []), tt)) (λ κs. ((λ x vs is. token_told (Gains R Entering.the_row) vs is.0), tt)) (λ κs qs bounds a gh are.
+    let gained = a.0 in let y : (walk_of 𝓛 En hs c).Ghost = ((κs, qs, bounds, a, (token ∷ [], tt)), gh) in let Post : Val → SProp 𝓤 = (walk_of 𝓛 En hs c).post y in
+    qed 𝓛 ((raw (alive 𝓛 En.signature κs qs) ⊛ ‵ (owns (types_at En.signature.params κs) a y.0.4)) ∷ raw ((c κs a).requires gh) ∷ []) ∵ keep ! (0 ∷ []) $ split ! $
+    move ! (1 ∷ []) $ fsplit ! $ fsplit ! $ keep ! (1 ∷ 3 ∷ []) $ fsplit ! $ fpick ! (λ found. drop ! $
+    -- [the right; what is alive]
+    enter ! 𝓣.C 𝓣.Λ fn (token ∷ []) Post $ alloc_all ! (λ l. pass_all ! refl ((tt, (tt, tt)), tt) $
+    use0 𝓛 (‵ ((Token unit).own_val (record {}, tt) (token ∷ []))) (token_made unit 𝓛) $ fjoin ! $
     sets ! (agg ! (no_more !)) refl (tt, tt) $ sets ! (agg ! (and_then ! (get ! refl) (no_more !))) refl (tt, (tt, tt)) $
-    returns ! (look_at ! 0 refl) $ free_all ! refl $
-    suffices ! _ (ends_at 𝓛 f.ended stayed c y token back (tt, tt) (tt, tt)) $ says ! (found, refl, refl) $
-    nothing ! $ nothing ! $ fjoin ! $ nothing ! $ done !)))
+    nothing ! $ nothing ! $ fjoin ! $
+    returns ! (look_at ! 0 refl) $ free_all ! refl $ keep ! (2 ∷ 0 ∷ 1 ∷ []) $
+    by ! (ends 𝓛 En hs c y token (record { marker = record {}; names = gained.names; held = Some (length gained.answer.all) }) (tt, tt) (tt, tt) (fact_i 𝓤 _ (emp 𝓤) (found, refl, refl))))))

@@ -1,6 +1,4 @@
-use Rattle.std.proofs.Common.{◌≡◌, ◌+◌, ◌≤◌, List, length, ap, ◌∙◌, sym, subst, arith}
-use Rattle.std.specs.List.{fold}
-use Rattle.ty_base.specs.declared.entry.Entry.{Entry}
+use Rattle.std.proofs.Common.{◌≡◌, ◌+◌, length, ap, ◌∙◌, subst, arith}
 use Rattle.ty_crumb.specs.declared.crumb.Crumb.{Crumb}
 use Rattle.ty_crumb.specs.Batches.{next_entries}
 use Rattle.ty_crumb.specs.Crumbs.{world_of, entries_of}
