@@ -29,6 +29,3 @@ pub use modes::local;
 pub use plain::plain_stream;
 pub use program::top;
 pub use wanted::Needs;
-
-#[cfg(test)]
-mod tests;

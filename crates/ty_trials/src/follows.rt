@@ -1,7 +1,7 @@
 // What a client follows.
-use crate::tests::feeds::{A, A_TWO, B, BAD_ENDPOINT, ENDPOINT, NO_A, lines_up_to};
-use crate::tests::realistic::LINES;
-use crate::tests::{
+use crate::feeds::{A, A_TWO, B, BAD_ENDPOINT, ENDPOINT, NO_A, lines_up_to};
+use crate::realistic::LINES;
+use crate::runs::{
     CRUMB_0, CRUMB_1, Devices, FEED, GOOD, HELLO, IN_SYNC, READY, READY_LINE, WAIT, came, framed,
     joined, run,
 };
@@ -69,30 +69,26 @@ fn finds(alloc: Global, bodies: &[&str], text: &str, note: &str) -> Result<bool,
 
 const OTHER_HELLO: &str = "{\"m\":\"server_hello\",\"version\":2}";
 
+// The bodies of a connection, what is written before the fault, and its note.
+const FOUND: [(&[&str], &str, &str); 5] = [
+    (
+        &[HELLO, RESYNC, CRUMB_3, CRUMB_3],
+        "at 3 resync 0\n",
+        "typha: frame 4: crumb 3 after 3\n",
+    ),
+    (&[HELLO, CRUMB_3], "", "typha: frame 2: out of order\n"),
+    (&[OTHER_HELLO], "", "typha: frame 1: version 2\n"),
+    (&[HELLO, "oops"], "", "typha: frame 2: not JSON\n"),
+    (&["{}"], "", "typha: frame 1: not a message\n"),
+];
+
 #[test]
 fn faults_of_a_connection_have_their_notes(rt: HostRuntime) -> Result<(), Fail> {
     let alloc = rt.alloc();
-    let again = "typha: frame 4: crumb 3 after 3\n";
+    for (bodies, text, note) in FOUND {
+        assert!(rt; finds(alloc, bodies, text, note)?, "{note}");
+    }
     let long = "typha: frame 1: too long 8388609\n";
-    assert!(rt;
-        finds(
-            alloc,
-            &[HELLO, RESYNC, CRUMB_3, CRUMB_3],
-            "at 3 resync 0\n",
-            again
-        )?
-    );
-    assert!(rt;
-        finds(
-            alloc,
-            &[HELLO, CRUMB_3],
-            "",
-            "typha: frame 2: out of order\n"
-        )?
-    );
-    assert!(rt; finds(alloc, &[OTHER_HELLO], "", "typha: frame 1: version 2\n")?);
-    assert!(rt; finds(alloc, &[HELLO, "oops"], "", "typha: frame 2: not JSON\n")?);
-    assert!(rt; finds(alloc, &["{}"], "", "typha: frame 1: not a message\n")?);
     assert!(rt; follows(alloc, &["follow"], &[0, 128, 0, 1], 6, "", long)?);
     Ok(())
 }
@@ -105,44 +101,34 @@ fn folds(alloc: Global, words: &[&str], feed: &[&str], text: &str) -> Result<boo
     Ok(streamed.status == 0 && came(&ran, 0, text.as_bytes(), ""))
 }
 
-#[test]
-fn a_client_rebuilds_the_folds(rt: HostRuntime) -> Result<(), Fail> {
-    let alloc = rt.alloc();
-    assert!(rt; folds(alloc, &["follow"], &[], FIRST)?);
-    assert!(rt; folds(alloc, &["follow"], &[FEED], TEXT)?);
-    let held =
-        "at 0 wait-for-ready 0\nat 1 wait-for-ready 1\n{\"key\":\"/calico/v1/Ready\",\"value\":\"true\"}\n";
-    assert!(rt;
-        folds(
-            alloc,
-            &["follow"],
-            &[READY_LINE, "\n", READY_LINE, "\n"],
-            held
-        )?
-    );
-    let replaced =
-        "at 0 wait-for-ready 0\nat 1 wait-for-ready 2\n{\"key\":\"/calico/v1/config/a\",\"value\":\"\\\"2\\\"\"}\n{\"key\":\"/calico/v1/config/b\",\"value\":\"\\\"1\\\"\"}\n";
-    assert!(rt; folds(alloc, &["follow"], &[A, B, A_TWO], replaced)?);
-    let only_b =
-        "at 0 wait-for-ready 0\nat 1 wait-for-ready 1\n{\"key\":\"/calico/v1/config/b\",\"value\":\"\\\"1\\\"\"}\n";
-    assert!(rt; folds(alloc, &["follow"], &[A, NO_A, "\n", B, "\n"], only_b)?);
-    Ok(())
-}
+// Feeds, and the text of what a client rebuilds of them. An invalid value is none.
+const FOLDS: [(&[&str], &str); 7] = [
+    (&[], FIRST),
+    (&[FEED], TEXT),
+    (
+        &[READY_LINE, "\n", READY_LINE, "\n"],
+        "at 0 wait-for-ready 0\nat 1 wait-for-ready 1\n{\"key\":\"/calico/v1/Ready\",\"value\":\"true\"}\n",
+    ),
+    (
+        &[A, B, A_TWO],
+        "at 0 wait-for-ready 0\nat 1 wait-for-ready 2\n{\"key\":\"/calico/v1/config/a\",\"value\":\"\\\"2\\\"\"}\n{\"key\":\"/calico/v1/config/b\",\"value\":\"\\\"1\\\"\"}\n",
+    ),
+    (
+        &[A, NO_A, "\n", B, "\n"],
+        "at 0 wait-for-ready 0\nat 1 wait-for-ready 1\n{\"key\":\"/calico/v1/config/b\",\"value\":\"\\\"1\\\"\"}\n",
+    ),
+    (
+        &[ENDPOINT, "\n", BAD_ENDPOINT, "\n"],
+        "at 0 wait-for-ready 0\nat 1 wait-for-ready 1\n{\"key\":\"/calico/v1/host/n1/workload/k8s/p1/endpoint/eth0\",\"value\":\"{\\\"ipv4_nets\\\":[\\\"10.0.0.1/32\\\"],\\\"name\\\":\\\"cali1\\\"}\"}\nat 2 wait-for-ready 0\n",
+    ),
+    (&[BAD_ENDPOINT, "\n"], FIRST),
+];
 
 #[test]
-fn a_client_sees_an_invalid_value_as_none(rt: HostRuntime) -> Result<(), Fail> {
-    let alloc = rt.alloc();
-    let deleted =
-        "at 0 wait-for-ready 0\nat 1 wait-for-ready 1\n{\"key\":\"/calico/v1/host/n1/workload/k8s/p1/endpoint/eth0\",\"value\":\"{\\\"ipv4_nets\\\":[\\\"10.0.0.1/32\\\"],\\\"name\\\":\\\"cali1\\\"}\"}\nat 2 wait-for-ready 0\n";
-    assert!(rt;
-        folds(
-            alloc,
-            &["follow"],
-            &[ENDPOINT, "\n", BAD_ENDPOINT, "\n"],
-            deleted
-        )?
-    );
-    assert!(rt; folds(alloc, &["follow"], &[BAD_ENDPOINT, "\n"], FIRST)?);
+fn a_client_rebuilds_the_folds(rt: HostRuntime) -> Result<(), Fail> {
+    for (feed, text) in FOLDS {
+        assert!(rt; folds(rt.alloc(), &["follow"], feed, text)?, "{text}");
+    }
     Ok(())
 }
 

@@ -1,5 +1,5 @@
 // Sources and sinks that fail.
-use crate::tests::{
+use crate::runs::{
     CRUMB_0, CRUMB_1, Devices, FEED, GOOD, HELLO, IN_SYNC, READY, WAIT, came, framed, run,
 };
 use std::alloc::Global;

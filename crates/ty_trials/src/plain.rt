@@ -3,14 +3,14 @@ ghost use Rattle.std.specs.Prelude.{◌≡◌};
 ghost use Rattle.ty_base.specs.Passing.{item_passes};
 ghost use Rattle.ty_base.specs.Limits.{key_fits, value_fits, items_fit};
 
-use crate::plain_stream;
-use crate::tests::feeds::{A, A_TWO, B, BAD_ENDPOINT, ENDPOINT, NO_A, lines_up_to};
-use crate::tests::realistic::LINES;
-use crate::tests::{GOOD, IN_SYNC_LINE, READY_LINE, came, joined, run};
+use crate::feeds::{A, A_TWO, B, BAD_ENDPOINT, ENDPOINT, NO_A, lines_up_to};
+use crate::realistic::LINES;
+use crate::runs::{GOOD, IN_SYNC_LINE, READY_LINE, came, joined, run};
 use std::alloc::Global;
 use std::test::Fail;
 use ty_base::{Item, NoMemory};
 use ty_intake::{Fed, Intake};
+use ty_top::plain_stream;
 
 fn copy_item(alloc: Global, item: &Item) -> Result<Item, NoMemory> {
     Ok(match item {
@@ -80,24 +80,25 @@ fn parts_agree(alloc: Global, feed: &[&str]) -> Result<bool, NoMemory> {
     agree(alloc, &feed)
 }
 
+const FEEDS: [&[&str]; 8] = [
+    &[],
+    &[READY_LINE, IN_SYNC_LINE],
+    &[READY_LINE, "\n", READY_LINE, "\n"],
+    &[A, B, A_TWO],
+    &[A, NO_A, "\n", B, "\n"],
+    &[ENDPOINT, "\n", BAD_ENDPOINT, "\n"],
+    &[BAD_ENDPOINT, "\n"],
+    &LINES,
+];
+
 #[test]
 fn both_programs_give_the_same_bytes(rt: HostRuntime) -> Result<(), Fail> {
     let alloc = rt.alloc();
-    assert!(rt; parts_agree(alloc, &[])?);
-    assert!(rt; parts_agree(alloc, &[READY_LINE, IN_SYNC_LINE])?);
-    assert!(rt; parts_agree(alloc, &[READY_LINE, "\n", READY_LINE, "\n"])?);
-    assert!(rt; parts_agree(alloc, &[A, B, A_TWO])?);
-    assert!(rt; parts_agree(alloc, &[A, NO_A, "\n", B, "\n"])?);
-    Ok(())
-}
-
-#[test]
-fn both_programs_agree_on_larger_feeds(rt: HostRuntime) -> Result<(), Fail> {
-    let alloc = rt.alloc();
-    assert!(rt; parts_agree(alloc, &[ENDPOINT, "\n", BAD_ENDPOINT, "\n"])?);
-    assert!(rt; parts_agree(alloc, &[BAD_ENDPOINT, "\n"])?);
-    assert!(rt; parts_agree(alloc, &LINES)?);
-    assert!(rt; agree(alloc, &lines_up_to(alloc, 101)?)?);
-    assert!(rt; agree(alloc, &lines_up_to(alloc, 250)?)?);
+    for (place, feed) in FEEDS.iter().enumerate() {
+        assert!(rt; parts_agree(alloc, feed)?, "{place}");
+    }
+    for most in [101u32, 250] {
+        assert!(rt; agree(alloc, &lines_up_to(alloc, most)?)?, "{most}");
+    }
     Ok(())
 }

@@ -1,5 +1,5 @@
 // Words that are refused, and faults of a feed.
-use crate::tests::{
+use crate::runs::{
     CRUMB_0, CRUMB_1, FEED, GOOD, HELLO, IN_SYNC, IN_SYNC_LINE, READY, READY_LINE, WAIT, came,
     framed, run, streams,
 };
@@ -35,49 +35,39 @@ fn stops(alloc: Global, more: &[u8], status: u8, note: &str) -> Result<bool, Fai
     Ok(came(&ran, status, &wanted, note))
 }
 
+// What stands behind the second line, the status and the note. A key that doesn't read is passed over.
+const STOPS: [(&[u8], u8, &str); 5] = [
+    (b"oops\n", 2, "typha: line 3: not a feed line\n"),
+    (b"oops", 2, "typha: line 3: not a feed line\n"),
+    (b"\n{}\n", 2, "typha: line 4: not a feed line\n"),
+    (b"\xff\n", 2, "typha: line 3: not UTF-8\n"),
+    (b"{\"key\":\"/calico/v2/x\",\"value\":true}\n", 0, ""),
+];
+
 #[test]
 fn a_bad_line_stops_behind_the_breadcrumbs_before(rt: HostRuntime) -> Result<(), Fail> {
-    let alloc = rt.alloc();
-    assert!(rt; stops(alloc, b"oops\n", 2, "typha: line 3: not a feed line\n")?);
-    assert!(rt; stops(alloc, b"oops", 2, "typha: line 3: not a feed line\n")?);
-    assert!(rt; stops(alloc, b"\n{}\n", 2, "typha: line 4: not a feed line\n")?);
-    assert!(rt; stops(alloc, b"\xff\n", 2, "typha: line 3: not UTF-8\n")?);
+    for (more, status, note) in STOPS {
+        assert!(rt; stops(rt.alloc(), more, status, note)?, "{note}");
+    }
     Ok(())
 }
 
-#[test]
-fn a_key_that_does_not_read_is_passed_over(rt: HostRuntime) -> Result<(), Fail> {
-    let alloc = rt.alloc();
-    let line = b"{\"key\":\"/calico/v2/x\",\"value\":true}\n";
-    assert!(rt; stops(alloc, line, 0, "")?);
-    Ok(())
-}
+// The words, the feed, and the bodies of what is published.
+const UNFINISHED: [(&[&str], &[&str], &[&str]); 2] = [
+    (
+        &["stream"],
+        &[READY_LINE, "oops\n", IN_SYNC_LINE],
+        &[HELLO, WAIT, CRUMB_0],
+    ),
+    (&["stream", "--from", "1"], &[READY_LINE, "oops"], &[HELLO]),
+];
 
 #[test]
 fn an_unfinished_batch_is_not_published(rt: HostRuntime) -> Result<(), Fail> {
-    let alloc = rt.alloc();
-    let zero = [HELLO, WAIT, CRUMB_0];
     let note = "typha: line 2: not a feed line\n";
-    assert!(rt;
-        streams(
-            alloc,
-            &["stream"],
-            &[READY_LINE, "oops\n", IN_SYNC_LINE],
-            2,
-            &zero,
-            note
-        )?
-    );
-    assert!(rt;
-        streams(
-            alloc,
-            &["stream", "--from", "1"],
-            &[READY_LINE, "oops"],
-            2,
-            &[HELLO],
-            note
-        )?
-    );
+    for (words, feed, bodies) in UNFINISHED {
+        assert!(rt; streams(rt.alloc(), words, feed, 2, bodies, note)?);
+    }
     Ok(())
 }
 
@@ -88,12 +78,18 @@ fn with_spaces(alloc: Global, count: usize) -> Result<Vec<u8>, Fail> {
     Ok(more)
 }
 
+// How many spaces stand there, the status and the note.
+const LONG: [(usize, u8, &str); 2] = [
+    (8_388_608, 0, ""),
+    (8_388_609, 2, "typha: line 3: too long\n"),
+];
+
 #[test]
 fn a_line_has_8_388_608_bytes_at_most(rt: HostRuntime) -> Result<(), Fail> {
     let alloc = rt.alloc();
-    let most = with_spaces(alloc, 8_388_608)?;
-    assert!(rt; stops(alloc, &most, 0, "")?);
-    let long = with_spaces(alloc, 8_388_609)?;
-    assert!(rt; stops(alloc, &long, 2, "typha: line 3: too long\n")?);
+    for (count, status, note) in LONG {
+        let more = with_spaces(alloc, count)?;
+        assert!(rt; stops(alloc, &more, status, note)?, "{count}");
+    }
     Ok(())
 }

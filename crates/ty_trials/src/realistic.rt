@@ -1,5 +1,5 @@
 // A realistic feed, whole and cut off.
-use crate::tests::{Devices, GOOD, came, framed, joined, run, streams};
+use crate::runs::{Devices, GOOD, came, framed, joined, run, streams};
 use std::test::Fail;
 
 // The lines of the feed. Its breadcrumbs are published by lines 1, 10, 13 and 17.
