@@ -39,68 +39,81 @@ const PUT: &str =
 const DELETED: &str =
     "{\"kvs\":[{\"key\":\"/calico/v1/host/n1/workload/k8s/p1/endpoint/eth0\",\"type\":\"deleted\"}],\"m\":\"kvs\"}";
 
-// The breadcrumb to begin with, the feed, and the bodies of its frames.
-const STREAMED: [(&str, &[&str], &[&str]); 13] = [
-    ("0", &[], &[HELLO, WAIT, CRUMB_0]),
+// The words, the feed, and the bodies of its frames.
+const STREAMED: [(&[&str], &[&str], &[&str]); 14] = [
+    (&["stream"], &[], &[HELLO, WAIT, CRUMB_0]),
     (
-        "0",
+        &["stream"],
         &[READY_LINE, IN_SYNC_LINE],
         &[HELLO, WAIT, CRUMB_0, READY, IN_SYNC, CRUMB_1],
     ),
     (
-        "0",
+        &["stream"],
         &[READY_LINE, "\n", READY_LINE, " \r\t\n"],
         &[HELLO, WAIT, CRUMB_0, READY, CRUMB_1],
     ),
     // A breadcrumb has the changes of its batch.
     (
-        "0",
+        &["stream"],
         &[A, B, A_TWO],
         &[HELLO, WAIT, CRUMB_0, NEW_BOTH, CRUMB_1],
     ),
     (
-        "0",
+        &["stream"],
         &[A, NO_A, "\n", B, "\n"],
         &[HELLO, WAIT, CRUMB_0, NEW_B, CRUMB_1],
     ),
     // An invalid value is none.
     (
-        "0",
+        &["stream"],
         &[ENDPOINT, "\n", BAD_ENDPOINT, "\n"],
         &[HELLO, WAIT, CRUMB_0, PUT, CRUMB_1, DELETED, CRUMB_2],
     ),
-    ("0", &[BAD_ENDPOINT, "\n"], &[HELLO, WAIT, CRUMB_0]),
+    (&["stream"], &[BAD_ENDPOINT, "\n"], &[HELLO, WAIT, CRUMB_0]),
     // The talk begins with the breadcrumb that is asked for.
     (
-        "1",
+        &["stream", "--from", "0"],
+        &[READY_LINE, IN_SYNC_LINE],
+        &[HELLO, WAIT, CRUMB_0, READY, IN_SYNC, CRUMB_1],
+    ),
+    (
+        &["stream", "--from", "1"],
         &[READY_LINE, IN_SYNC_LINE],
         &[HELLO, READY, IN_SYNC, CRUMB_1],
     ),
-    ("2", &[READY_LINE, IN_SYNC_LINE], &[HELLO]),
-    ("1099511627776", &[READY_LINE, IN_SYNC_LINE], &[HELLO]),
+    (
+        &["stream", "--from", "2"],
+        &[READY_LINE, IN_SYNC_LINE],
+        &[HELLO],
+    ),
+    (
+        &["stream", "--from", "1099511627776"],
+        &[READY_LINE, IN_SYNC_LINE],
+        &[HELLO],
+    ),
     // Later breadcrumbs follow as deltas.
     (
-        "1",
+        &["stream", "--from", "1"],
         &[A, IN_SYNC_LINE, A_TWO, B, "\n"],
         &[HELLO, NEW_A, IN_SYNC, CRUMB_1, UPDATED, CRUMB_2],
     ),
     (
-        "2",
+        &["stream", "--from", "2"],
         &[A, IN_SYNC_LINE, A_TWO, B, "\n"],
         &[HELLO, NEW_BOTH, IN_SYNC, CRUMB_2],
     ),
-    ("3", &[A, IN_SYNC_LINE, A_TWO, B, "\n"], &[HELLO]),
+    (
+        &["stream", "--from", "3"],
+        &[A, IN_SYNC_LINE, A_TWO, B, "\n"],
+        &[HELLO],
+    ),
 ];
 
 #[test]
 fn a_feed_has_the_frames_of_its_breadcrumbs(rt: HostRuntime) -> Result<(), Fail> {
     let alloc = rt.alloc();
-    for (from, feed, bodies) in STREAMED {
-        let words = ["stream", "--from", from];
-        assert!(rt; streams(alloc, &words, feed, 0, bodies, "")?, "{from}");
-        if from == "0" {
-            assert!(rt; streams(alloc, &["stream"], feed, 0, bodies, "")?);
-        }
+    for (place, (words, feed, bodies)) in STREAMED.iter().enumerate() {
+        assert!(rt; streams(alloc, words, feed, 0, bodies, "")?, "{place}");
     }
     Ok(())
 }
