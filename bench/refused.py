@@ -14,7 +14,6 @@ a C compiler (`cc`): the refusals are made by a library that is loaded before th
 import collections
 import concurrent.futures
 import contextlib
-import fcntl
 import os
 import subprocess
 import sys
@@ -209,8 +208,7 @@ def end_at_pipe(words, data, whole, count):
     with tempfile.TemporaryFile() as source:
         source.write(data)
         source.seek(0)
-        process = subprocess.Popen([PROGRAM, *words], stdin=source, stdout=subprocess.PIPE, stderr=subprocess.PIPE, bufsize=0)
-        fcntl.fcntl(process.stdout, fcntl.F_SETPIPE_SZ, 4096)
+        process = subprocess.Popen([PROGRAM, *words], stdin=source, stdout=subprocess.PIPE, stderr=subprocess.PIPE, bufsize=0, pipesize=4096)
         out = b''
         while len(out) < count and (piece := process.stdout.read(count - len(out))):
             out += piece
