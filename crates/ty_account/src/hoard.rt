@@ -91,6 +91,7 @@ impl Hoard {
 }
 
 impl<T> Known<T> {
+    /// The same right once more.
     pub fn again(&self) -> Known<T>
         ensures { result ≡ self.now }
     {

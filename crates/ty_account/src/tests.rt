@@ -42,7 +42,7 @@ fn a_look_is_fresh(rt: HostRuntime) -> Result<(), Fail> {
     let alloc = rt.alloc();
     let (account, mut pen, mut front, _) = Account::start(alloc, Number { number: 0 })?;
     assert_eq!(rt;
-        account.look(&mut front),
+        account.share()?.look(&mut front),
         Look {
             count: 0,
             closed: false
@@ -60,7 +60,7 @@ fn a_look_is_fresh(rt: HostRuntime) -> Result<(), Fail> {
     enter(alloc, &mut pen, 1)?;
     assert_eq!(rt; front_count(&pen.close()), 3);
     assert_eq!(rt;
-        account.share()?.look(&mut front),
+        account.look(&mut front),
         Look {
             count: 3,
             closed: true
@@ -111,8 +111,9 @@ fn a_spot_goes_from_node_to_node(rt: HostRuntime) -> Result<(), Fail> {
 fn a_copy_goes_its_own_way(rt: HostRuntime) -> Result<(), Fail> {
     let alloc = rt.alloc();
     let (_, mut pen, mut front, mut spot) = Account::start(alloc, Number { number: 0 })?;
-    enter(alloc, &mut pen, 2)?;
     let mut copy = spot.copy()?;
+    assert_eq!(rt; go(&mut copy, &mut front), (Walked::Empty, 0));
+    enter(alloc, &mut pen, 2)?;
     assert_eq!(rt; go(&mut spot, &mut front), (Walked::Next, 1));
     assert_eq!(rt; copy.item().number, 0);
     copy.move_to(&spot);

@@ -15,7 +15,7 @@ use std::sync::Wait;
 use std::test::Fail;
 use std::thread::{Threads, join, map_indices, yield_now};
 use ty_account::{Named, front_copy};
-use ty_base::{Item, NoMemory, Status, Text, print_u64, status_text};
+use ty_base::{Item, NoMemory, Text, print_u64, status_text};
 use ty_crumb::Crumb;
 
 fn is_update(item: &Item) -> bool
@@ -210,19 +210,15 @@ fn a_new_follower_stands_at_what_was_posted_last(rt: HostRuntime) -> Result<(), 
     Ok(())
 }
 
-// Publishes so many breadcrumbs, each with another status than the one before.
+// Publishes so many breadcrumbs, in which one key alternates between two values.
 fn publish_many<L: Named>(
     alloc: Global,
     publisher: &mut Publisher<L>,
     count: u64,
 ) -> Result<(), NoMemory> {
     for i in 0..count {
-        let status = if i % 2 == 0 {
-            Status::InSync
-        } else {
-            Status::Resync
-        };
-        publish(alloc, publisher, Item::State(status), i)?;
+        let value = if i % 2 == 0 { "0" } else { "1" };
+        put(alloc, publisher, ("a", value), i)?;
     }
     Ok(())
 }
@@ -352,7 +348,7 @@ fn followers_in_eight_threads_end_at_one_breadcrumb(rt: HostRuntime) -> Result<(
     let told = fan_out::<Brand, _>(&rt, rt.alloc(), opening)?;
     assert_eq!(rt; told.len(), 8);
     for one in told {
-        assert!(rt; one?.as_slice() == b"100000 100000 resync".as_slice());
+        assert!(rt; one?.as_slice() == b"100000 100000 wait-for-ready a=1".as_slice());
     }
     Ok(())
 }
