@@ -6,10 +6,12 @@ usage: bench/refused.py
 Each request for memory is refused in turn in runs of `stream`, `follow`, `follow --brief` and `sim` over the examples: such a run
 ends with status 5 and a front of what it writes else, or with all of it. Then, once the request is refused, each later one too.
 Each read and each write fails in turn, in pieces of 48 bytes: status 3 with the frames of the breadcrumbs whose batches had
-closed, or status 4 with what was taken before. Then come a full disk, a folder to read, and pipes whose reader leaves. Of a server
-with a client on loopback requests all over its run are refused: it ends with status 5, or its client gets all; what the client
-prints are maps of the feed, their numbers rising. The status is 0 where no run ended otherwise. It takes a minute or two, and wants
-a C compiler (`cc`): the refusals are made by a library that is loaded before the system's.
+closed, or status 4 with what was taken before. Then come a full disk, a folder to read, and pipes whose reader leaves. Memory is
+refused to a chain that a follower holds, by the measuring program of crates/ty_bench. Of a server with a client on loopback requests
+for memory all over its run are refused: it ends with status 5, or its client gets all; and its accepts, takes and gives in turn: a
+door is lost (status 7), or the client loses its connection. What the client prints are maps of the feed, their numbers rising. The
+status is 0 where no run ended otherwise. It takes a minute or two, and wants a C compiler (`cc`): the refusals are made by a library
+that is loaded before the system's.
 """
 import collections
 import concurrent.futures
@@ -24,8 +26,11 @@ from program import PROGRAM, TOP, Client, check_built, free_port, rebuilt
 
 PIECE = 48
 SERVED = 60
+MOST_LINKS = 30
+LOST = 0, 7, 9, 10
 LIMIT = 30
 AT_ONCE = 4
+MEASURE = os.path.join(TOP, 'crates/ty_bench/out/ty_bench')
 OUT_OF_MEMORY = b'typha: out of memory\n'
 
 # REFUSE is a kind of call, a number from 1, and `+` where each later one is refused too. COUNTS is a file for how often each kind
@@ -38,13 +43,14 @@ LIBRARY = r'''
 #include <stdio.h>
 #include <stdlib.h>
 #include <string.h>
+#include <sys/socket.h>
 #include <sys/syscall.h>
 #include <unistd.h>
 
 void *__libc_malloc(size_t), *__libc_calloc(size_t, size_t), *__libc_realloc(void *, size_t), *__libc_memalign(size_t, size_t);
 
-enum { MEMORY, READ, WRITE, KINDS };
-static const char *name[KINDS] = {"memory", "read", "write"};
+enum { MEMORY, READ, WRITE, ACCEPT, TAKE, GIVE, KINDS };
+static const char *name[KINDS] = {"memory", "read", "write", "accept", "take", "give"};
 static atomic_long called[KINDS];
 static int kind = KINDS, and_later, begun;
 static long number;
@@ -62,7 +68,7 @@ void _exit(int status) {
     const char *path = getenv("COUNTS");
     begun = 0;
     int file = path ? open(path, O_WRONLY | O_CREAT | O_TRUNC, 0600) : -1;
-    if (file >= 0) dprintf(file, "%ld %ld %ld", called[MEMORY], called[READ], called[WRITE]);
+    for (int i = 0; file >= 0 && i < KINDS; i++) dprintf(file, "%ld ", called[i]);
     for (;;) syscall(SYS_exit_group, status);
 }
 static int is_refused(int it) {
@@ -84,6 +90,19 @@ ssize_t write(int file, const void *p, size_t n) {
     if (file != 1) return syscall(SYS_write, file, p, n);
     if (is_refused(WRITE)) { errno = ENOSPC; return -1; }
     return syscall(SYS_write, file, p, n < piece ? n : piece);
+}
+int accept4(int file, struct sockaddr *from, socklen_t *n, int flags) {
+    if (is_refused(ACCEPT)) { errno = EMFILE; return -1; }
+    return syscall(SYS_accept4, file, from, n, flags);
+}
+int accept(int file, struct sockaddr *from, socklen_t *n) { return accept4(file, from, n, 0); }
+ssize_t recv(int file, void *p, size_t n, int flags) {
+    if (is_refused(TAKE)) { errno = ECONNRESET; return -1; }
+    return syscall(SYS_recvfrom, file, p, n, flags, 0, 0);
+}
+ssize_t send(int file, const void *p, size_t n, int flags) {
+    if (is_refused(GIVE)) { errno = ECONNRESET; return -1; }
+    return syscall(SYS_sendto, file, p, n, flags, 0, 0);
 }
 '''
 
@@ -117,19 +136,22 @@ class Runs:
     def environment(self, refuse, **more):
         return dict(os.environ, LD_PRELOAD=self.library, REFUSE=refuse, **more)
 
-    def run(self, words, data, refuse='', **more):
+    def run(self, words, data, refuse='', program=PROGRAM, **more):
         try:
-            ran = subprocess.run([PROGRAM, *words], input=data, env=self.environment(refuse, **more), capture_output=True, timeout=LIMIT)
+            ran = subprocess.run([program, *words], input=data, env=self.environment(refuse, **more), capture_output=True, timeout=LIMIT)
         except subprocess.TimeoutExpired:
             return 'no end', b'', b''
         return ran.returncode, ran.stdout, ran.stderr
 
-    def counts(self, words, data, **more):
-        """How often a run asks for memory, reads and writes."""
-        path = os.path.join(self.work, 'counts')
-        self.run(words, data, COUNTS=path, **more)
+    def read(self, path):
+        """How often each kind of call was made."""
         with open(path) as text:
             return [int(count) for count in text.read().split()]
+
+    def counts(self, words, data, **more):
+        path = os.path.join(self.work, 'counts')
+        self.run(words, data, COUNTS=path, **more)
+        return self.read(path)
 
     def judge(self, name, ends):
         """Counts ends by what they are called. One that begins with a capital isn't right."""
@@ -160,6 +182,23 @@ def refuse_memory(runs, words, data):
                   lambda number: end_of_memory(runs.run(words, data, 'memory %d%s' % (number, later)), whole))
 
 
+def end_of_chain(told, whole):
+    status, out, note = told
+    if (status, note) == (0, b'') and out in (whole, b'out of memory\n'):
+        return 'ended with all breadcrumbs' if out == whole else "ended with a call's own answer"
+    return 'WITH STATUS %s, %r, %r' % (status, out, note)
+
+
+def refuse_chain(runs):
+    """A chain of three breadcrumbs with a follower that holds them, and one with a follower in a thread of its own."""
+    for words in (['hold', '3', '1'], ['chain', '3', '1']):
+        _, whole, _ = runs.run(words, b'', program=MEASURE)
+        count = runs.counts(words, b'', program=MEASURE)[0]
+        for later, told in ('', ''), ('+', ', and each later one'):
+            runs.each('a chain by `%s`, memory%s' % (' '.join(words), told), range(1, count + 1),
+                      lambda number: end_of_chain(runs.run(words, b'', 'memory %d%s' % (number, later), program=MEASURE), whole))
+
+
 def streamed(front):
     """What `stream` says of a front of the feed: of the lines up to the last that closes a batch. None has 100 updates."""
     lines = front.split(b'\n')[:-1]
@@ -185,7 +224,7 @@ def reported(front):
 def fail_devices(runs, words, data, front_of):
     """Each read and each write fails, the streams in pieces."""
     whole, name = output_of(words, data), ' '.join(words)
-    _, reads, writes = runs.counts(words, data, PIECE=str(PIECE))
+    reads, writes = runs.counts(words, data, PIECE=str(PIECE))[1:3]
 
     def end_of_read(number):
         status, out, note = runs.run(words, data, 'read %d' % number, PIECE=str(PIECE))
@@ -323,17 +362,30 @@ def end_of_server(told, worlds, want):
     return 'WITH STATUS %s, %r, client %s, %r, %r' % (status, server_note, ended, note, last[-60:])
 
 
+def end_of_link(told, worlds, want):
+    """A server may have lost a door, and a client its connection."""
+    status, server_note, ended, note, last, text = told
+    if (status, server_note) in ((0, b''), (7, b'typha: door fault\n')) and is_told(text, worlds):
+        if (ended, last) == (0, want):
+            return 'ended with status %d, the client with all' % status
+        if ended in LOST:
+            return 'with status %d, the client with a front and status %d' % (status, ended)
+    return 'WITH STATUS %s, %r, client %s, %r, %r' % (status, server_note, ended, note, last[-60:])
+
+
 def refuse_server(runs, feed):
     worlds = {number_of(block): block.rstrip(b'\n') for block in blocks_of(output_of(['follow'], output_of(['stream'], feed)))}
     want = rebuilt(feed)
     path = os.path.join(runs.work, 'served')
     serve_refused(runs, '', feed, COUNTS=path)
-    with open(path) as text:
-        count = int(text.read().split()[0])
+    memory, _, _, *links = runs.read(path)
     for later, told in ('', ''), ('+', ', and each later one'):
-        numbers = sorted({1 + at * count // SERVED for at in range(SERVED)})
-        runs.each('serve, memory, of some %d requests%s' % (count, told), numbers,
+        numbers = sorted({1 + at * memory // SERVED for at in range(SERVED)})
+        runs.each('serve, memory, of some %d requests%s' % (memory, told), numbers,
                   lambda number: end_of_server(serve_refused(runs, 'memory %d%s' % (number, later), feed), worlds, want))
+    for kind, count in zip(('accept', 'take', 'give'), links):
+        runs.each('serve, %ss' % kind, range(1, min(count, MOST_LINKS) + 1),
+                  lambda number: end_of_link(serve_refused(runs, '%s %d' % (kind, number), feed), worlds, want))
 
 
 def main():
@@ -351,6 +403,7 @@ def main():
         fail_devices(runs, ['follow'], frames, followed)
         fail_devices(runs, ['sim'], script, reported)
         meet_devices(runs, feed, frames, script)
+        refuse_chain(runs)
         refuse_server(runs, feed)
     print('%d refused, %d ended otherwise, after %.0f s' % (runs.tried, runs.wrong, time.monotonic() - begin))
     sys.exit(1 if runs.wrong else 0)

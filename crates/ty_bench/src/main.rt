@@ -1,14 +1,16 @@
-//! Measures the held map, the frames and many sessions. The map runs beside std's `BTreeMap`.
+//! Measures the held map, the frames, many sessions and the chain. The map runs beside std's `BTreeMap`.
 #![tactic(auto)]
 
 mod batch;
 mod chain;
 mod frames;
+mod hold;
 mod puts;
 mod sessions;
 
 use chain::publish_and_follow;
 use frames::{read_all, written};
+use hold::publish_and_hold;
 use puts::{all_keys, into_btree, into_pairs};
 use sessions::{Encoding, Offering, deliver};
 use std::alloc::Global;
@@ -23,7 +25,7 @@ use ty_base::{NoMemory, read_u64};
 use ty_chain::Opening;
 
 const USAGE: &str =
-    "usage: ty_bench puts COUNT KEYS [BATCH] | frames COUNT | sessions COUNT CRUMBS encoded|each [held] | chain CRUMBS FOLLOWERS";
+    "usage: ty_bench puts COUNT KEYS [BATCH] | frames COUNT | sessions COUNT CRUMBS encoded|each [held] | chain CRUMBS FOLLOWERS | hold CRUMBS ROUNDS";
 
 fn main(rt: HostRuntime) -> io::Result<ExitCode> {
     let mut args = env::args(&rt)?.skip(1);
@@ -40,6 +42,7 @@ fn main(rt: HostRuntime) -> io::Result<ExitCode> {
         }
         (Some("frames"), Some(count), None, None) => measure_frames(&rt, count)?,
         (Some("chain"), Some(crumbs), Some(followers), None) => run_chain(&rt, crumbs, followers)?,
+        (Some("hold"), Some(crumbs), Some(rounds), None) => run_holds(&rt, crumbs, rounds)?,
         (Some("sessions"), Some(count), Some(crumbs), Some(encoding)) => {
             run_sessions(&rt, count, crumbs, encoding, offering)?
         }
@@ -151,4 +154,21 @@ fn chain_steps<R: Threads + Wait + Sync>(
 ) -> Result<u64, NoMemory> {
     let opening = Opening::new(alloc, 0)?;
     publish_and_follow::<Brand, R>(rt, alloc, opening, crumbs, followers as usize)
+}
+
+// So many chains, one after another, each with so many breadcrumbs that a follower at the first one
+// holds.
+fn run_holds<R: Print + AllocGlobal + Wait>(rt: &R, crumbs: u64, rounds: u64) -> io::Result<()> {
+    for round in 0..rounds {
+        let Ok(last) = last_held(rt, rt.alloc(), crumbs) else {
+            return rt.println("out of memory");
+        };
+        println!(rt; "hold {round}: breadcrumb {last} was the last")?;
+    }
+    Ok(())
+}
+
+fn last_held<R: Wait>(rt: &R, alloc: Global, crumbs: u64) -> Result<u64, NoMemory> {
+    let opening = Opening::new(alloc, 0)?;
+    publish_and_hold::<Brand, R>(rt, alloc, opening, crumbs)
 }
