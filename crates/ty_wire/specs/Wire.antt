@@ -1,6 +1,6 @@
 -- The bytes of a message: its body, which is compact JSON (RFC 8259), behind the body's length as
 -- four bytes, highest first.
-use Rattle.std.specs.Prelude.{◌≡◌, ℕ, ◌^◌, List, [], ◌∷◌, ◌++◌, length, flat_map, codes, decimal, Bool, true, ◌&&◌, nat_lt, nat_le, Option, None, Some, ⊤}
+use Rattle.std.specs.Prelude.{◌≡◌, refl, ℕ, ◌^◌, List, [], ◌∷◌, ◌++◌, length, flat_map, codes, decimal, Bool, true, ◌&&◌, nat_lt, nat_le, Option, None, Some, ⊤}
 use Rattle.std.specs.List.{AllByRecursion}
 use Rattle.std.specs.Str.{IsUtf8}
 use Rattle.std.specs.Int.{to_be_bytes, w32}
@@ -27,6 +27,10 @@ value_text (Some v) = codes ",\"value\":" ++ quoted v
 
 abbrev pub delta_text : Delta → List ℕ
 delta_text d = codes "{\"key\":" ++ (quoted d.key ++ (codes ",\"type\":\"" ++ (kind_text d.kind ++ (codes "\"" ++ (value_text d.value ++ codes "}")))))
+
+-- a pair as a delta that is new
+abbrev pub new_pair : List ℕ → List ℕ → Delta
+new_pair k v = record { key = k; kind = New; value = Some v; told = refl }
 
 -- each behind a comma
 unfoldable pub more_deltas : List Delta → List ℕ

@@ -13,6 +13,7 @@ mod group;
 mod kvs;
 mod laws;
 mod message;
+mod pair;
 mod partial_frame;
 mod place;
 mod quoted;
@@ -28,3 +29,4 @@ pub use laws::{
     talks_have_frames,
 };
 pub use message::{Msg, Msgs};
+pub use pair::append_new;
