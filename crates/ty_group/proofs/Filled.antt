@@ -1,16 +1,17 @@
 -- A message that is being filled, delta by delta.
-use Rattle.std.proofs.Common.{◌≡◌, ℕ, ◌+◌, ◌<◌, true, false, List, [], ◌∷◌, ◌++◌, length, map, refl, sym, ap, subst, ◌∙◌, arith, append_assoc, append-nil}
-use Rattle.std.specs.List.{AllByRecursion, sum_by}
+use Rattle.std.proofs.Common.{◌≡◌, ℕ, ◌+◌, true, false, List, [], ◌∷◌, ◌++◌, map, refl, sym, ap, subst, ◌∙◌, append_assoc, append-nil}
+use Rattle.std.specs.Prelude.{Result, Ok, Err, OnOk}
+use Rattle.std.specs.List.{sum_by}
 use Rattle.std.proofs.lemmas.List.Sums.{sum_by_push}
 use Rattle.std.proofs.lemmas.List.Folds.{list_all-append}
 use Rattle.ty_base.specs.declared.delta.Delta.{Delta}
 use Rattle.ty_base.specs.Passing.{delta_passes}
 use Rattle.ty_base.specs.Limits.{key_fits, value_fits}
-use Rattle.ty_wire.specs.Wire.{frame, frames, message_fits}
+use Rattle.ty_wire.specs.Wire.{frame, frames}
 use Rattle.ty_wire.specs.Cut.{weight, takes, cut_on, cut_deltas}
 use Rattle.ty_wire.specs.Talk.{kvs_messages}
 use Rattle.ty_wire.specs.declared.message.Msg.TheVariants.{Kvs}
-use Rattle.ty_wire.proofs.Parts.{goes_on, all-fit, Fits}
+use Rattle.ty_wire.proofs.Parts.{goes_on}
 use Rattle.ty_group.specs.Written.{IsWritten}
 use Rattle.ty_group.specs.steps.Filled.{IsOpen, IsFilled, has_place}
 
@@ -39,21 +40,26 @@ whole : (e : Delta) (ds : List Delta) → IsOpen (e ∷ ds) → cut_deltas (e �
 unfolding cut_on
 whole e ds o = ap cut_deltas (sym (append-nil (e ∷ ds))) ∙ o []
 
-pub full_fits : (ds : List Delta) (load : ℕ) → 0 < length ds → IsFilled ds load → message_fits (Kvs ds) ≡ true
-full_fits [] load h f = absurd (omega arith)
-full_fits (e ∷ ds) load h f = let P : List (List Delta) → Type 0 = AllByRecursion Fits in (subst P (whole e ds f.open_to) (all-fit (e ∷ ds) f.limits)).0
-
 stops : (filling ds : List Delta) (d : Delta) → takes filling d ≡ false → cut_on filling (d ∷ ds) ≡ filling ∷ cut_on (d ∷ []) ds
 unfolding cut_on
 stops filling ds d h = rw h refl
 
 -- the message is written, and the next delta begins another
-pub full_written : (ds : List Delta) (d : Delta) (rest : List Delta) (load : ℕ) (before now : List ℕ) → has_place ds d ≡ false → IsFilled ds load → now ≡ before ++ frame (Kvs ds) → IsWritten (ds ++ d ∷ rest) (d ∷ rest) before now
-full_written [] d rest load before now t f w = cc
-full_written (e ∷ ds) d rest load before now t f w =
-    ap (λ (l : List ℕ). l ++ frames (kvs_messages (d ∷ rest))) w
-    ∙ append_assoc before (frame (Kvs (e ∷ ds))) (frames (kvs_messages (d ∷ rest)))
+begins_next : (ds : List Delta) (load : ℕ) (before now : List ℕ) → IsFilled ds load → now ≡ before ++ frames (kvs_messages ds)
+    → (d : Delta) (rest : List Delta) → has_place ds d ≡ false → IsWritten (ds ++ d ∷ rest) (d ∷ rest) before now
+begins_next [] load before now f w = λ d rest t. cc
+begins_next (e ∷ ds) load before now f w = λ d rest t.
+    ap (λ (l : List ℕ). l ++ frames (kvs_messages (d ∷ rest))) (w ∙ ap (λ (l : List (List Delta)). before ++ frames (map Kvs l)) (whole e ds f.open_to))
+    ∙ append_assoc before (frames (Kvs (e ∷ ds) ∷ [])) (frames (kvs_messages (d ∷ rest)))
+    ∙ ap (λ (l : List ℕ). before ++ (l ++ frames (kvs_messages (d ∷ rest)))) (append-nil (frame (Kvs (e ∷ ds))))
     ∙ ap (λ (l : List (List Delta)). before ++ frames (map Kvs l)) (sym (f.open_to (d ∷ rest) ∙ stops (e ∷ ds) rest d t))
+
+pub begins_where_ok : {A E : Type 0} (r : Result A E) (held ds : List Delta) (load : ℕ) (before now : List ℕ) → held ≡ ds → IsFilled held load → OnOk r (now ≡ before ++ frames (kvs_messages held))
+    → OnOk r ((d : Delta) (rest : List Delta) → has_place ds d ≡ false → IsWritten (ds ++ d ∷ rest) (d ∷ rest) before now)
+begins_where_ok (Ok x) held ds load before now same f w =
+    let P : List Delta → Type 0 = λ l. (d : Delta) (rest : List Delta) → has_place l d ≡ false → IsWritten (l ++ d ∷ rest) (d ∷ rest) before now in
+    subst P same (begins_next held load before now f w)
+begins_where_ok (Err e) held ds load before now same f w = tt
 
 -- nothing is written, and there is one delta more
 kept_on : (ds : List Delta) (d : Delta) (rest : List Delta) (now : List ℕ) → now ++ frames (kvs_messages ((ds ++ d ∷ []) ++ rest)) ≡ now ++ frames (kvs_messages (ds ++ d ∷ rest))
@@ -63,23 +69,6 @@ pub taken_on : (ds : List Delta) (d : Delta) (rest : List Delta) (all new : List
 taken_on ds d rest all new before now e w =
     ap (λ (l : List Delta). now ++ frames (kvs_messages (l ++ rest))) e ∙ kept_on ds d rest now ∙ w
 
--- the message that was filled last
-pub all_sent : (v ds : List Delta) (load : ℕ) (before now : List ℕ) → v ≡ ds → 0 < length v → IsFilled v load → now ≡ before ++ frame (Kvs v) → now ≡ before ++ frames (kvs_messages ds)
-all_sent [] ds load before now same h f w = absurd (omega arith)
-all_sent (e ∷ es) ds load before now same h f w =
-    w ∙ ap (λ (l : List ℕ). before ++ l) (sym (append-nil (frame (Kvs (e ∷ es)))))
-    ∙ ap (λ (l : List (List Delta)). before ++ frames (map Kvs l)) (sym (whole e es f.open_to) ∙ ap cut_deltas same)
-
--- the message that is full is written, where the next delta has no place
-pub begins_next : (v ds : List Delta) (load : ℕ) (before now : List ℕ) → v ≡ ds → IsFilled v load → now ≡ before ++ frame (Kvs v)
-    → (d : Delta) (rest : List Delta) → has_place ds d ≡ false → IsWritten (ds ++ d ∷ rest) (d ∷ rest) before now
-begins_next v ds load before now same f w = λ d rest t.
-    full_written ds d rest load before now t (let P : List Delta → Type 0 = λ l. IsFilled l load in subst P same f) (w ∙ ap (λ (l : List Delta). before ++ frame (Kvs l)) same)
-
 pub made_place : (ds : List Delta) (d : Delta) (new : List Delta) (before now : List ℕ) → new ≡ [] → ((rest : List Delta) → IsWritten (ds ++ d ∷ rest) (d ∷ rest) before now)
     → (rest : List Delta) → IsWritten (ds ++ d ∷ rest) (new ++ d ∷ rest) before now
 made_place ds d new before now e w = λ rest. ap (λ (l : List Delta). now ++ frames (kvs_messages (l ++ d ∷ rest))) e ∙ w rest
-
-pub some_held : (ds : List Delta) (d : Delta) → has_place ds d ≡ false → 0 < length ds
-some_held [] d h = cc
-some_held (e ∷ ds) d h = omega arith

@@ -86,18 +86,25 @@ fits_at [] i d w h e = absurd (omega arith)
 fits_at (x ∷ xs) zero d w h e = ap (delta_passes key_fits value_fits) e ∙ (both ((delta_passes key_fits value_fits) x) (deltas_fit xs) w).0
 fits_at (x ∷ xs) (suc i) d w h e = fits_at xs i d (both ((delta_passes key_fits value_fits) x) (deltas_fit xs) w).1 (omega arith) e
 
+-- a delta whose text is behind the others, and its mark
+pub one_more : (ds : List Delta) (d : Delta) (text now : List ℕ) (marks ms : List Mark) (len load : ℕ) → (delta_passes key_fits value_fits) d ≡ true → DeltaHasUtf8 d
+    → now ≡ text ++ piece d → len ≡ length now - length text → load ≡ weight d → ms ≡ marks ++ record { len = len; weight = load } ∷ []
+    → IsEncoding text marks ds → IsEncoding now ms (ds ++ d ∷ [])
+one_more ds d text now marks ms len load h u t l o m p =
+    let size : len ≡ length (piece d) = omega (arith, l, ap length t, length-append text (piece d)) in
+    let mark : ms ≡ marks ++ mark_of d ∷ [] = m ∙ ap (λ (k : ℕ). marks ++ record { len = k; weight = load } ∷ []) size ∙ ap (λ (k : ℕ). marks ++ record { len = length (piece d); weight = k } ∷ []) o in
+    let P : List ℕ → Type 0 = λ x. IsEncoding x ms (ds ++ d ∷ []) in
+    let Q : List Mark → Type 0 = λ x. IsEncoding (text ++ piece d) x (ds ++ d ∷ []) in
+    subst P (sym t) (subst Q (sym mark) (pushed text marks ds d h u p))
+
 -- the next delta of these
 pub pushed_next : (ds : List Delta) (i : ℕ) (d : Delta) (text now : List ℕ) (marks ms : List Mark) (len load : ℕ) → deltas_fit ds ≡ true → DeltaHasUtf8 d → i < length ds → d ≡ get_or ds i d
     → now ≡ text ++ piece d → len ≡ length now - length text → load ≡ weight d → ms ≡ marks ++ record { len = len; weight = load } ∷ []
     → IsEncoding text marks (take i ds) → IsEncoding now ms (take (i + 1) ds)
 pushed_next ds i d text now marks ms len load w u h e t l o m p =
-    let size : len ≡ length (piece d) = omega (arith, l, ap length t, length-append text (piece d)) in
-    let mark : ms ≡ marks ++ mark_of d ∷ [] = m ∙ ap (λ (k : ℕ). marks ++ record { len = k; weight = load } ∷ []) size ∙ ap (λ (k : ℕ). marks ++ record { len = length (piece d); weight = k } ∷ []) o in
     let front : take i ds ++ d ∷ [] ≡ take (i + 1) ds = ap (λ (x : Delta). take i ds ++ x ∷ []) e ∙ sym (take_more ds i d h) in
-    let P : List ℕ → Type 0 = λ x. IsEncoding x ms (take (i + 1) ds) in
-    let Q : List Mark → Type 0 = λ x. IsEncoding (text ++ piece d) x (take (i + 1) ds) in
-    let R : List Delta → Type 0 = IsEncoding (text ++ piece d) (marks ++ mark_of d ∷ []) in
-    subst P (sym t) (subst Q (sym mark) (subst R front (pushed text marks (take i ds) d (fits_at ds i d w h e) u p)))
+    let P : List Delta → Type 0 = IsEncoding now ms in
+    subst P front (one_more (take i ds) d text now marks ms len load (fits_at ds i d w h e) u t l o m p)
 
 -- ---- the rest behind some
 

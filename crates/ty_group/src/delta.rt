@@ -1,6 +1,6 @@
 // The text of one delta, by `json`'s writer.
 ghost use Rattle.std.specs.Prelude.{◌≡◌, ◌<◌, ◌^◌, ◌++◌, OnOk, IfOk};
-ghost use Rattle.ty_wire.specs.Wire.{kind_text as kind_word, DeltaHasUtf8, ValueHasUtf8};
+ghost use Rattle.ty_wire.specs.Wire.{new_pair, kind_text as kind_word, DeltaHasUtf8, ValueHasUtf8};
 ghost use Rattle.ty_wire.specs.Cut.{value_len as len_of_value};
 ghost use Rattle.ty_wire.specs.Cut.{weight as weight_of_delta};
 ghost use Rattle.ty_wire.specs.steps.Tokens.{delta_tokens, value_tokens};
@@ -62,6 +62,13 @@ pub(crate) fn weight_of(delta: &Delta) -> usize
     ensures utf8 { DeltaHasUtf8 delta.now }
 {
     delta.key.bytes().len() + value_len(&delta.value)
+}
+
+// The bytes of a pair's key and value.
+pub(crate) fn weight_of_pair(key: &Text, value: &Text) -> usize
+    ensures { result ≡ weight_of_delta (new_pair key.now value.now) }
+{
+    key.bytes().len() + value.bytes().len()
 }
 
 fn value_len(value: &Option<Text>) -> usize

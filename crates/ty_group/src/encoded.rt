@@ -1,18 +1,19 @@
 // A breadcrumb's deltas as bytes.
-ghost use Rattle.std.specs.Prelude.{true, ◌≡◌, ◌++◌, [], length, IfOk, OnOk, OnErr};
+ghost use Rattle.std.specs.Prelude.{true, ◌≡◌, ◌++◌, ◌∷◌, [], length, IfOk, OnOk, OnErr};
 ghost use Rattle.std.specs.List.{AllByRecursion};
-ghost use Rattle.ty_base.specs.Limits.{deltas_fit};
-ghost use Rattle.ty_wire.specs.Wire.{IsWire, frames};
-ghost use Rattle.ty_wire.specs.Talk.{group_messages as group};
+ghost use Rattle.ty_base.specs.Limits.{key_fits, value_fits, deltas_fit};
+ghost use Rattle.ty_base.specs.Passing.{delta_passes};
+ghost use Rattle.ty_wire.specs.Wire.{IsWire, new_pair, frames};
+ghost use Rattle.ty_wire.specs.Talk.{kvs_messages, group_messages as group};
 ghost use Rattle.ty_group.specs.Written.{Keeps};
 
-use crate::delta::{append_piece, weight_of};
+use crate::delta::{append_piece, weight_of, weight_of_pair};
 use crate::mark::Mark;
 use crate::messages::append_messages;
 use std::alloc::Global;
 use std::marker::Model;
-use ty_base::{Deltas, NoMemory, Status};
-use ty_wire::write_group;
+use ty_base::{Deltas, NoMemory, Status, Text};
+use ty_wire::{append_new, write_group};
 
 /// Deltas as they stand in KVs messages, made once and shared by all sessions: their texts in one
 /// buffer, a comma behind each, and for each delta the bytes of its text and its weight, the bytes
@@ -81,6 +82,39 @@ impl Encoded {
         self.text.extend_from_slice(&others.text).unwrap();
         self.marks.extend_from_slice(&others.marks).unwrap();
         Ok(())
+    }
+
+    // Appends a pair as a delta that is new. Want of memory leaves what was there.
+    pub(crate) fn push_new(&mut self, key: &Text, value: &Text) -> Result<(), NoMemory>
+        requires { delta_passes key_fits value_fits (new_pair key.now value.now) ≡ true }
+        ensures ok { OnOk result (self.new ≡ self.old ++ new_pair key.now value.now ∷ []) }
+        ensures err { OnErr result (self.new ≡ self.old) }
+    {
+        self.marks.reserve(1)?;
+        let before = self.text.len();
+        append_new(key, value, &mut self.text)?;
+        let mark = Mark {
+            len: self.text.len() - before,
+            weight: weight_of_pair(key, value),
+        };
+        self.marks.push(mark).unwrap();
+        Ok(())
+    }
+
+    // Takes all away, and keeps the memory.
+    pub(crate) fn clear(&mut self)
+        ensures { self.new ≡ [] }
+    {
+        self.text.clear();
+        self.marks.clear();
+    }
+
+    // Appends the frames of the KVs messages into which the deltas are cut.
+    pub(crate) fn append_to(&self, out: &mut Vec<u8>) -> Result<(), NoMemory>
+        ensures ok { OnOk result (out.new.items ≡ out.old.items ++ frames (kvs_messages self.now)) }
+        ensures err { OnErr result (Keeps out.old.items out.new.items) }
+    {
+        append_messages(&self.text, &self.marks, out)
     }
 }
 
