@@ -6,7 +6,7 @@ use Rattle.ty_base.specs.Feed.{Pairs}
 use Rattle.ty_base.specs.Passing.{pair_passes, delta_passes}
 use Rattle.ty_base.specs.Limits.{key_fits, value_fits, pairs_fit}
 use Rattle.ty_base.specs.declared.delta.Delta.{Delta}
-use Rattle.ty_wire.specs.Wire.{frame, frames}
+use Rattle.ty_wire.specs.Wire.{new_pair, frame, frames}
 use Rattle.ty_wire.specs.Talk.{kvs_messages}
 use Rattle.ty_wire.specs.declared.message.Msg.{Msg}
 use Rattle.ty_crumb.specs.Crumbs.{added, snapshot_of}
@@ -37,15 +37,14 @@ begun m filling before e h = record {
   kept = keeps_all before;
 }
 
-pub walked_on : (all filling new : List Delta) (d : Delta) (key value : List ℕ) (it rest : Pairs) (before half now : List ℕ)
-    → it ≡ (key, value) ∷ rest → d ≡ added key value
-    → ((more : List Delta) → IsWritten (filling ++ d ∷ more) (new ++ more) half now) → Keeps half now
+pub walked_on : (all filling new : List Delta) (key value : List ℕ) (it rest : Pairs) (before half now : List ℕ)
+    → it ≡ (key, value) ∷ rest
+    → ((more : List Delta) → IsWritten (filling ++ new_pair key value ∷ more) (new ++ more) half now) → Keeps half now
     → IsWalked all filling it before half → IsWalked all new rest before now
-walked_on all filling new d key value it rest before half now e a p k w = record {
+walked_on all filling new key value it rest before half now e p k w = record {
   fits = rest_fits key value rest it e w.fits;
   written =
       p (snapshot_of rest)
-      ∙ ap (λ (x : Delta). half ++ frames (kvs_messages (filling ++ x ∷ snapshot_of rest))) a
       ∙ sym (ap (λ (l : Pairs). half ++ frames (kvs_messages (filling ++ snapshot_of l))) e)
       ∙ w.written;
   kept = keeps_on before half now w.kept k;

@@ -10,7 +10,7 @@ ghost use Rattle.ty_session.specs.Story.{snapshot_bytes};
 
 use std::alloc::Global;
 use ty_base::{Deltas, NoMemory};
-use ty_crumb::{Crumb, new_delta};
+use ty_crumb::Crumb;
 use ty_group::Filling;
 use ty_wire::{Msg, short_messages_fit, write, write_group};
 
@@ -54,7 +54,7 @@ fn append_pairs(alloc: Global, crumb: &Crumb, out: &mut Vec<u8>) -> Result<(), N
     ensures err { OnErr result (Keeps out.old.items out.new.items) }
 {
     let filling = fill(alloc, crumb, out)?;
-    filling.close(alloc, out)
+    filling.close(out)
 }
 
 // All of them but the last one, which is being filled.
@@ -64,8 +64,7 @@ fn fill(alloc: Global, crumb: &Crumb, out: &mut Vec<u8>) -> Result<Filling, NoMe
 {
     let mut filling = Filling::new(alloc);
     for (key, value) in crumb.pairs.walk(alloc)? {
-        let delta = new_delta(alloc, key, value)?;
-        filling.push(alloc, delta, out)?;
+        filling.push(key, value, out)?;
     }
     Ok(filling)
 }
