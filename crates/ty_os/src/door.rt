@@ -12,6 +12,9 @@ use ty_base::{Came, Door, Failed};
 /// How long a listening door rests where nothing came, in milliseconds.
 const REST: u64 = 100;
 
+/// After so many of them it looks whether something came.
+const PAUSE: u64 = 10;
+
 // Where the connections come from.
 #[derive(Drop)]
 enum Origin {
@@ -47,9 +50,9 @@ impl<R> OsDoor<R> {
         }
     }
 
-    /// A door that listens, and at an accept rests 100 ms where nothing came. Several doors may have one
-    /// listener, each a clone of it, which from now on doesn't block. Where the system refuses that, it
-    /// is a door to nowhere.
+    /// A door that listens, and at an accept rests 100 ms where nothing comes in this time. Several doors
+    /// may have one listener, each a clone of it, which from now on doesn't block. Where the system
+    /// refuses that, it is a door to nowhere.
     pub fn listening(rt: R, listener: TcpListener) -> OsDoor<R>
         ensures { (result.gave ≡ 0) × (result.got ≡ 0) × (result.count ≡ 0) }
     {
@@ -81,19 +84,26 @@ fn next<R: Net<Listener = TcpListener, Stream = TcpStream> + Clock>(
     origin: &Origin,
 ) -> io::Result<Option<OsLink>> {
     match origin {
-        Origin::Listener(listener) => match listener.accept() {
-            Ok((stream, _)) => Ok(Some(OsLink::new(stream)?)),
-            Err(error) => match error.kind() {
-                ErrorKind::WouldBlock | ErrorKind::Interrupted => {
-                    thread::sleep(rt, Duration::from_millis(REST));
-                    Ok(None)
-                }
-                _ => Err(error),
-            },
-        },
+        Origin::Listener(listener) => next_within_rest(rt, listener),
         Origin::Address(at) => Ok(Some(OsLink::new(TcpStream::connect(rt, at.as_str())?)?)),
         Origin::Nowhere => Err(io::Error::from(ErrorKind::AddrNotAvailable)),
     }
+}
+
+// The next connection, if one comes before the rest is over.
+fn next_within_rest<R: Clock>(rt: &R, listener: &TcpListener) -> io::Result<Option<OsLink>> {
+    for _ in 0..REST / PAUSE {
+        match listener.accept() {
+            Ok((stream, _)) => return Ok(Some(OsLink::new(stream)?)),
+            Err(error) => match error.kind() {
+                ErrorKind::WouldBlock | ErrorKind::Interrupted => {
+                    thread::sleep(rt, Duration::from_millis(PAUSE));
+                }
+                _ => return Err(error),
+            },
+        }
+    }
+    Ok(None)
 }
 
 impl<R: Net<Listener = TcpListener, Stream = TcpStream> + Clock> Door for OsDoor<R> {
