@@ -186,6 +186,8 @@ def end_of_chain(told, whole):
     status, out, note = told
     if (status, note) == (0, b'') and out in (whole, b'out of memory\n'):
         return 'ended with all breadcrumbs' if out == whole else "ended with a call's own answer"
+    if (status, out, note) == (1, b'', b'Error: Kind(OutOfMemory)\n'):
+        return 'before its words were read'
     return 'WITH STATUS %s, %r, %r' % (status, out, note)
 
 
