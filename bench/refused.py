@@ -394,6 +394,8 @@ def main():
     if len(sys.argv) > 1:
         sys.exit(__doc__)
     check_built()
+    if not os.access(MEASURE, os.X_OK):
+        sys.exit('build the measuring program first: cd crates/ty_bench && rt run')
     begin = time.monotonic()
     feed, script = example('cluster.jsonl'), example('rejoin.script')
     frames = output_of(['stream'], feed)
